@@ -1,0 +1,10 @@
+pub mod Members
+pub mod Paths
+pub mod Effects
+pub mod Counts
+pub mod Tables
+pub mod Wipes
+pub mod Lookups
+pub mod Traces
+pub mod Prefix
+pub mod Verdicts
