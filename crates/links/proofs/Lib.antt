@@ -6,5 +6,6 @@ pub mod Tables
 pub mod Wipes
 pub mod Lookups
 pub mod Traces
+pub mod Climbs
 pub mod Prefix
 pub mod Verdicts

@@ -21,7 +21,7 @@ use Rattle.links.proofs.Lookups.{some-link, no-link}
 use Rattle.links.proofs.Paths.{used}
 
 module _ (L : List ℕ) (few : length L ≤ 4096) where
-  trace-path : (m v : ℕ) → stop m L v ≡ END → Path (at L) v (trace m L v)
+  pub trace-path : (m v : ℕ) → stop m L v ≡ END → Path (at L) v (trace m L v)
   trace-path zero v h = h
   trace-path (suc m) v h = go (trace-path m (at L v)) (ltb v (length L)) refl h
     where
@@ -30,7 +30,7 @@ module _ (L : List ℕ) (few : length L ≤ 4096) where
       go r true e k = (refl, omega (arith, ltb-true v (length L) e), r k)
       go r false e k = k
 
-  path-trace : (m v : ℕ) (ps : List ℕ) → Path (at L) v ps → length ps ≤ m → (trace m L v ≡ ps) × (stop m L v ≡ END)
+  pub path-trace : (m v : ℕ) (ps : List ℕ) → Path (at L) v ps → length ps ≤ m → (trace m L v ≡ ps) × (stop m L v ≡ END)
   path-trace zero v [] h l = (refl, h)
   path-trace zero v (p ∷ ps) h l = absurd (omega arith)
   path-trace (suc m) v [] h l = rw (le-ltb v (length L) (omega arith)) (refl, h)
@@ -125,30 +125,37 @@ holds-more L p i l n = sym (at-drop-more (holds p) L i FREE l ∙ rw (ne-eqb (at
 pub holds-all : (L : List ℕ) (p i : ℕ) → length L ≤ i → holds p (drop i L) ≡ false
 holds-all L p i l = at-drop-all (holds p) L i l
 
--- a walk as long as the table, of which is known how many places it met and where it stopped
-module _ (L : List ℕ) (p n s : ℕ) (places : n ≡ length (trace (length L) L p)) (stops : s ≡ stop (length L) L p) where
-  met-some : n ≢ 0 → p < length L
-  met-some h = ⊎-elim (λ l. l) (λ l. absurd (h (places ∙ ap length (walk-past (length L) L p l .1)))) (cases-lt p (length L))
+-- a walk from p as long as the table met n places and stopped at s
+pub record Whole (L : List ℕ) (p n s : ℕ) : Type 0 where
+  pub places : n ≡ length (trace (length L) L p)
+  pub stops : s ≡ stop (length L) L p
 
-  met-none : n ≡ 0 → length L ≤ p
+pub whole : (L : List ℕ) (m p n s : ℕ) → m ≡ length L → n ≡ length (trace m L p) → s ≡ stop m L p → Whole L p n s
+whole L m p n s e a b = record { places = a ∙ ap (λ k. length (trace k L p)) e; stops = b ∙ ap (λ k. stop k L p) e }
+
+module _ (L : List ℕ) (p n s : ℕ) (w : Whole L p n s) where
+  pub met-some : n ≢ 0 → p < length L
+  met-some h = ⊎-elim (λ l. l) (λ l. absurd (h (w .places ∙ ap length (walk-past (length L) L p l .1)))) (cases-lt p (length L))
+
+  pub met-none : n ≡ 0 → length L ≤ p
   met-none h = ⊎-elim (λ l. absurd (go (length L) refl l)) (λ l. l) (cases-lt p (length L))
     where
       go : (m : ℕ) → length L ≡ m → p < length L → ⊥
       go zero e l = omega arith
-      go (suc m) e l = let w = walk-more m L p l .1 in let q : n ≡ length (trace (suc m) L p) = places ∙ ap (λ k. length (trace k L p)) e in omega arith
+      go (suc m) e l = let k = walk-more m L p l .1 in let q : n ≡ length (trace (suc m) L p) = w .places ∙ ap (λ k. length (trace k L p)) e in omega arith
 
   no-head : headed L p ≡ false → None ≡ mapped length (chainOf L p)
   no-head e = rw e
 
   pub units-none : (n ≡ 0) ⊎ ((s ≢ END) ⊎ (holds p L ≡ true)) → None ≡ mapped length (chainOf L p)
   units-none (inl e) = no-head (and-left _ _ (and-left _ _ (le-ltb p (length L) (met-none e))))
-  units-none (inr (inl e)) = no-head (and-left _ _ (and-right _ _ (ne-eqb _ END (λ h. e (stops ∙ h)))))
+  units-none (inr (inl e)) = no-head (and-left _ _ (and-right _ _ (ne-eqb _ END (λ h. e (w .stops ∙ h)))))
   units-none (inr (inr e)) = no-head (and-right _ _ (not-from-true _ e))
 
   pub units-some : n ≢ 0 → s ≡ END → holds p L ≡ false → Some n ≡ mapped length (chainOf L p)
   units-some h e k =
-      let t : headed L p ≡ true = and-from _ _ (and-from _ _ (lt-ltb p (length L) (met-some h)) (eq-eqb _ END (sym stops ∙ e))) (not-from-false _ k) in
-      rw t (ap Some places)
+      let t : headed L p ≡ true = and-from _ _ (and-from _ _ (lt-ltb p (length L) (met-some h)) (eq-eqb _ END (sym (w .stops) ∙ e))) (not-from-false _ k) in
+      rw t (ap Some (w .places))
 
 -- the place at a rank: the stop of the walk that long, if it came so far and there is a link there
 pub rank-past : (m j : ℕ) (L : List ℕ) (v : ℕ) → m ≤ j → nth (trace m L v) j ≡ None

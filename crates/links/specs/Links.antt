@@ -62,6 +62,10 @@ pub record Head (a : ℕ → ℕ) (p : ℕ) (ps : List ℕ) : Type 0 where
 abbrev pub IsHead : (ℕ → ℕ) → ℕ → Type 0
 IsHead a p = (ps : List ℕ) × Head a p ps
 
+-- p stands on the chain of a head
+abbrev pub OnChain : (ℕ → ℕ) → ℕ → Type 0
+OnChain a p = (h : ℕ) × (ps : List ℕ) × Head a h ps × In p ps
+
 -- how many places the chain of p has, and nothing where p is no head
 abbrev pub Units : (ℕ → ℕ) → ℕ → Option ℕ → Type 0
 Units a p None = IsHead a p → ⊥

@@ -1,7 +1,7 @@
 //! The walk along a chain, and what is told by it: heads, the units of a chain, the place at a rank.
 
 ghost use Prim.Native.Nat.{ℕ, _<_, _≤_};
-ghost use Rattle.links.specs.Links.{at, IsHead, Units};
+ghost use Rattle.links.specs.Links.{at, IsHead, OnChain, Units};
 ghost use Rattle.links.specs.Walk.{stop, trace, holds, chainOf};
 ghost use Rattle.std.specs.Finite.{nth};
 ghost use Rattle.std.specs.Options.{isSome, mapped};
@@ -80,6 +80,14 @@ pub fn is_head<T: LinkTable>(table: &T, place: u32) -> bool
     ensures means { λ r. ⌜ (r ≡ true) ↔ IsHead (at (links (now (table .entry)))) place ⌝ }
 {
     units(table, place).is_some()
+}
+
+// Whether a place stands on the chain of a head. That is so exactly if the pointers lead from it to END.
+pub fn on_chain<T: LinkTable>(table: &T, place: u32) -> bool
+    ensures { λ r. ⌜ (r ≡ true) ↔ OnChain (at (links (now (table .entry)))) place ⌝ }
+{
+    let rest = walk(table, place, table.count());
+    rest.places > 0 && rest.stop == END_OF_CHAIN
 }
 
 // The place at a rank, counted from 0, of those that a walk from a place meets; nothing past its end. At a head these
