@@ -116,14 +116,15 @@ left-start L most v =
     record { some = omega arith; stops = ap (λ m. stop m L v) k; meets = omega (arith, ap (λ m. length (trace m L v)) k) }
 
 -- the steps of a search for a link, rising
-pub holds-here : (L : List ℕ) (p i : ℕ) → i < length L → at L i ≡ p → holds p (drop i L) ≡ true
-holds-here L p i l e = at-drop-more (holds p) L i FREE l ∙ or-left _ _ (eq-eqb (at L i) p e)
+module _ (L : List ℕ) (p i : ℕ) (inv : holds p (drop i L) ≡ holds p L) where
+  pub holds-here : (v : ℕ) → i < length L → v ≡ at L i → v ≡ p → true ≡ holds p L
+  holds-here v l e h = sym (at-drop-more (holds p) L i FREE l ∙ or-left _ _ (eq-eqb (at L i) p (sym e ∙ h))) ∙ inv
 
-pub holds-more : (L : List ℕ) (p i : ℕ) → i < length L → at L i ≢ p → holds p (drop (i + 1) L) ≡ holds p (drop i L)
-holds-more L p i l n = sym (at-drop-more (holds p) L i FREE l ∙ rw (ne-eqb (at L i) p n))
+  pub holds-more : (v : ℕ) → i < length L → v ≡ at L i → v ≢ p → holds p (drop (i + 1) L) ≡ holds p L
+  holds-more v l e n = sym (at-drop-more (holds p) L i FREE l ∙ rw (ne-eqb (at L i) p (λ h. n (e ∙ h)))) ∙ inv
 
-pub holds-all : (L : List ℕ) (p i : ℕ) → length L ≤ i → holds p (drop i L) ≡ false
-holds-all L p i l = at-drop-all (holds p) L i l
+  pub holds-all : length L ≤ i → false ≡ holds p L
+  holds-all l = sym (at-drop-all (holds p) L i l) ∙ inv
 
 -- a walk from p as long as the table met n places and stopped at s
 pub record Whole (L : List ℕ) (p n s : ℕ) : Type 0 where
@@ -147,18 +148,18 @@ module _ (L : List ℕ) (p n s : ℕ) (w : Whole L p n s) where
   no-head : headed L p ≡ false → None ≡ mapped length (chainOf L p)
   no-head e = rw e
 
-  pub units-none : (n ≡ 0) ⊎ ((s ≢ END) ⊎ (holds p L ≡ true)) → None ≡ mapped length (chainOf L p)
+  pub units-none : (n ≡ 0) ⊎ ((s ≢ END) ⊎ (true ≡ holds p L)) → None ≡ mapped length (chainOf L p)
   units-none (inl e) = no-head (and-left _ _ (and-left _ _ (le-ltb p (length L) (met-none e))))
   units-none (inr (inl e)) = no-head (and-left _ _ (and-right _ _ (ne-eqb _ END (λ h. e (w .stops ∙ h)))))
-  units-none (inr (inr e)) = no-head (and-right _ _ (not-from-true _ e))
+  units-none (inr (inr e)) = no-head (and-right _ _ (not-from-true _ (sym e)))
 
-  pub units-some : n ≢ 0 → s ≡ END → holds p L ≡ false → Some n ≡ mapped length (chainOf L p)
+  pub units-some : n ≢ 0 → s ≡ END → false ≡ holds p L → Some n ≡ mapped length (chainOf L p)
   units-some h e k =
-      let t : headed L p ≡ true = and-from _ _ (and-from _ _ (lt-ltb p (length L) (met-some h)) (eq-eqb _ END (sym (w .stops) ∙ e))) (not-from-false _ k) in
+      let t : headed L p ≡ true = and-from _ _ (and-from _ _ (lt-ltb p (length L) (met-some h)) (eq-eqb _ END (sym (w .stops) ∙ e))) (not-from-false _ (sym k)) in
       rw t (ap Some (w .places))
 
 -- the place at a rank: the stop of the walk that long, if it came so far and there is a link there
-pub rank-past : (m j : ℕ) (L : List ℕ) (v : ℕ) → m ≤ j → nth (trace m L v) j ≡ None
+rank-past : (m j : ℕ) (L : List ℕ) (v : ℕ) → m ≤ j → nth (trace m L v) j ≡ None
 rank-past zero j L v l = refl
 rank-past (suc m) zero L v l = absurd (omega arith)
 rank-past (suc m) (suc j) L v l = go (rank-past m j L (at L v) (omega arith)) (ltb v (length L))
@@ -167,7 +168,7 @@ rank-past (suc m) (suc j) L v l = go (rank-past m j L (at L v) (omega arith)) (l
     go r true = r
     go r false = refl
 
-pub rank-none : (m j : ℕ) (L : List ℕ) (v : ℕ) → (length (trace j L v) < j) ⊎ (length L ≤ stop j L v) → nth (trace m L v) j ≡ None
+rank-none : (m j : ℕ) (L : List ℕ) (v : ℕ) → (length (trace j L v) < j) ⊎ (length L ≤ stop j L v) → nth (trace m L v) j ≡ None
 rank-none zero j L v h = refl
 rank-none (suc m) zero L v h = rw (le-ltb v (length L) (⊎-elim (λ l. absurd (omega arith)) (λ l. l) h))
 rank-none (suc m) (suc j) L v h = go (rank-none m j L (at L v)) (cases-lt v (length L)) h
@@ -177,7 +178,7 @@ rank-none (suc m) (suc j) L v h = go (rank-none m j L (at L v)) (cases-lt v (len
     go r (inl i) k = rw (lt-ltb v (length L) i) (r (⊎-elim (λ l. inl (omega (arith, walk-more j L v i .1))) (λ l. inr (rw (walk-more j L v i .0) at l)) k))
     go r (inr i) k = rw (le-ltb v (length L) i)
 
-pub rank-some : (m j : ℕ) (L : List ℕ) (v : ℕ) → length (trace j L v) ≡ j → stop j L v < length L → j < m → nth (trace m L v) j ≡ Some (stop j L v)
+rank-some : (m j : ℕ) (L : List ℕ) (v : ℕ) → length (trace j L v) ≡ j → stop j L v < length L → j < m → nth (trace m L v) j ≡ Some (stop j L v)
 rank-some zero j L v e h l = absurd (omega arith)
 rank-some (suc m) zero L v e h l = rw (lt-ltb v (length L) h)
 rank-some (suc m) (suc j) L v e h l = go (rank-some m j L (at L v)) (cases-lt v (length L))
@@ -210,10 +211,21 @@ head-means L p o r e u f = (f ∙ ap isSome e ∙ some-mapped (chainOf L p), rw 
     go None u = (λ e. absurd (false≢true e), λ h. absurd (u h))
     go (Some n) u = (λ _. (u .0, u .1), λ _. refl)
 
-pub trace-short : (m : ℕ) (L : List ℕ) (v : ℕ) → length (trace m L v) ≤ m
+trace-short : (m : ℕ) (L : List ℕ) (v : ℕ) → length (trace m L v) ≤ m
 trace-short zero L v = omega arith
 trace-short (suc m) L v = go (trace-short m L (at L v)) (ltb v (length L))
   where
     go : length (trace m L (at L v)) ≤ m → (t : Bool) → length (cond t (v ∷ trace m L (at L v)) []) ≤ suc m
     go r true = omega arith
     go r false = omega arith
+
+-- the same, of a walk of j steps that met n places and stopped at s
+module _ (m j : ℕ) (L : List ℕ) (v n s : ℕ) (places : n ≡ length (trace j L v)) (stops : s ≡ stop j L v) where
+  pub place-none : (n < j) ⊎ (length L ≤ s) → None ≡ nth (trace m L v) j
+  place-none h = sym (rank-none m j L v (⊎-elim (λ l. inl (omega arith)) (λ l. inr (omega arith)) h))
+
+  pub place-some : j ≤ n → s < length L → j < m → Some s ≡ nth (trace m L v) j
+  place-some l i k = ap Some stops ∙ sym (rank-some m j L v (omega (arith, trace-short j L v)) (omega arith) k)
+
+pub place-past : (m j : ℕ) (L : List ℕ) (v : ℕ) → m ≤ j → None ≡ nth (trace m L v) j
+place-past m j L v l = sym (rank-past m j L v l)

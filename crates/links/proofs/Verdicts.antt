@@ -49,14 +49,14 @@ module _ (L : List ℕ) (p : ℕ) where
   pub fault-none : POINTERS ≤ at L p → faultAt L p ≡ None
   fault-none l = rw (le-ltb (at L p) POINTERS l)
 
-  pub fault-dangling : at L p < POINTERS → at L (at L p) ≡ FREE → faultAt L p ≡ Some (Dangling p)
-  fault-dangling l e = rw (lt-ltb (at L p) POINTERS l, eq-eqb (at L (at L p)) FREE e)
+  pub fault-dangling : (v w : ℕ) → v ≡ at L p → v < POINTERS → w ≡ at L v → w ≡ FREE → faultAt L p ≡ Some (Dangling p)
+  fault-dangling v w here l there e = rw (lt-ltb (at L p) POINTERS (omega arith), eq-eqb (at L (at L p)) FREE (ap (at L) (sym here) ∙ sym there ∙ e))
 
   fault-met : (t : Bool) → at L p < POINTERS → at L (at L p) ≢ FREE → holds (at L p) (take p L) ≡ t → faultAt L p ≡ cond t (Some (Shared p)) None
   fault-met t l n e = rw (lt-ltb (at L p) POINTERS l, ne-eqb (at L (at L p)) FREE n, e)
 
   fault-leads : at L p < POINTERS → faultAt L p ≡ None → at L (at L p) ≢ FREE
-  fault-leads l e f = let d = fault-dangling l f in let z : _≡_ {A = ℕ} 0 1 = cc in omega arith
+  fault-leads l e f = let d = fault-dangling _ _ refl l refl f in let z : _≡_ {A = ℕ} 0 1 = cc in omega arith
 
   fault-fresh : at L p < POINTERS → faultAt L p ≡ None → holds (at L p) (take p L) ≡ true → ⊥
   fault-fresh l e t = let d = fault-met true l (fault-leads l e) t in let z : _≡_ {A = ℕ} 0 1 = cc in omega arith

@@ -1,10 +1,10 @@
 //! The edges: no link, one link, rings, shared and dangling pointers, a full table.
 
 use crate::LinkTable;
+use crate::checks;
 use crate::checks::LinkFault;
 use crate::checks::LinkFaultDebug;
 use crate::checks::LinkFaultPartialEq;
-use crate::checks;
 use crate::consts::DIFAT_SECTOR;
 use crate::consts::END_OF_CHAIN;
 use crate::consts::FAT_SECTOR;
@@ -71,15 +71,24 @@ fn shared_pointer() -> Result<(), Fail> {
 fn dangling_pointers() -> Result<(), Fail> {
     let fault = LinkFault::Dangling(1);
     check_eq(checks::check(&table(&[END_OF_CHAIN, 2])), Err(fault)).note("one past the end")?;
-    check_eq(checks::check(&table(&[END_OF_CHAIN, 2, FREE_SECTOR])), Err(fault)).note("to a FREE link")?;
+    check_eq(
+        checks::check(&table(&[END_OF_CHAIN, 2, FREE_SECTOR])),
+        Err(fault),
+    ).note("to a FREE link")?;
     check_eq(fault.number(), 6)?;
     check_eq(fault.place(), 1)
 }
 
 #[test]
 fn dangling_comes_before_shared() -> Result<(), Fail> {
-    check_eq(checks::check(&table(&[2, 2, FREE_SECTOR])), Err(LinkFault::Dangling(0)))?;
-    check_eq(checks::check(&table(&[3, 3, 9, END_OF_CHAIN])), Err(LinkFault::Shared(1)))
+    check_eq(
+        checks::check(&table(&[2, 2, FREE_SECTOR])),
+        Err(LinkFault::Dangling(0)),
+    )?;
+    check_eq(
+        checks::check(&table(&[3, 3, 9, END_OF_CHAIN])),
+        Err(LinkFault::Shared(1)),
+    )
 }
 
 #[test]

@@ -1,9 +1,8 @@
 -- Assumes nothing.
-use mathlib.Core.Path.{_≡_, refl, sym, ap, _∙_}
-use mathlib.Core.Logic.{_≢_, _↔_}
-use mathlib.Core.Bool.{Bool}
+use mathlib.Core.Path.{_≡_, refl}
+use mathlib.Core.Logic.{_↔_}
 use mathlib.Core.List.{List}
-use Prim.Native.Nat.{ℕ, _<_}
+use Prim.Native.Nat.{ℕ}
 use native.Mathlib.Omega.{arith}
 use borrow.Author.Needs.{needs}
 use Rattle.std.specs.declared.result.Result.{Result}
@@ -11,7 +10,7 @@ use Rattle.std.specs.declared.result.Result.the-variants.{Ok, Err}
 use Rattle.links.specs.declared.checks.LinkFault.{LinkFault}
 use Rattle.links.specs.declared.checks.LinkFault.the-variants.{Dangling, Shared}
 use Rattle.links.specs.Check.{verdict, Lowest}
-use Rattle.links.specs.Links.{FREE, at, Checked}
+use Rattle.links.specs.Links.{at, Checked}
 use Rattle.links.proofs.Verdicts.{looked-none, looked-skip, marked, fault-dangling, fault-shared, looked-mark, refused, lowest-verdict, decides}
 use Rattle.links.proofs.checks.check.Needs as need
 
@@ -30,8 +29,8 @@ pub returns-then-link-or-free : need.returns-then-link-or-free
 returns-then-link-or-free g c =
     let L = g .T·LinkTable .links (c .args .table .now) in
     let p = c .loop-place .place in
-    let e : at L (at L p) ≡ FREE = ap (at L) (sym (c .link-or-free-link .ensures)) ∙ sym (c .link-or-free .ensures) ∙ c .if-link-or-free .taken in
-    let r = all L (Err (Dangling p)) (refused L p _ (Dangling p) (c .loop-place .inv) (omega arith) refl (fault-dangling L p (omega arith) e)) in
+    let e = fault-dangling L p _ _ (c .link-or-free-link .ensures) (omega arith) (c .link-or-free .ensures) (c .if-link-or-free .taken) in
+    let r = all L (Err (Dangling p)) (refused L p _ (Dangling p) (c .loop-place .inv) (omega arith) refl e) in
     record { told = r .0; lowest = r .1; decides = r .2 }
 
 pub index-met-link : need.index-met-link
