@@ -1,6 +1,5 @@
 //! What a host notes beside its chains: entries and header words; and the extent of a stream.
 
-
 // The kinds of entries that are looked for.
 pub const OBJ_TYPE_STREAM: u8 = 2;
 

@@ -31,7 +31,10 @@ impl Extent {
     pub fn empty() -> Extent
         ensures { λ r. ⌜ (r .start ≡ 0xfffffffe) × (r .length ≡ 0) ⌝ }
     {
-        Extent { start: END_OF_CHAIN, length: 0 }
+        Extent {
+            start: END_OF_CHAIN,
+            length: 0,
+        }
     }
 
     pub fn start(self) -> u32

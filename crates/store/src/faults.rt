@@ -74,7 +74,12 @@ impl Fault {
     pub fn told_as(self, refusal: Refusal, layer: u8, place: u32) -> Fault
         ensures { λ r. ⌜ r ≡ record { refusal = refusal; layer = layer; place = place; lower = self .lower } ⌝ }
     {
-        Fault { refusal, layer, place, lower: self.lower }
+        Fault {
+            refusal,
+            layer,
+            place,
+            lower: self.lower,
+        }
     }
 }
 
@@ -83,6 +88,11 @@ pub impl From<StoreFault> for Fault as FaultFromStore {
     ghost converts = { λ f r. r ≡ record { refusal = f .refusal; layer = f .layer; place = f .place; lower = Some f } };
 
     fn from(fault: StoreFault) -> Fault {
-        Fault { refusal: fault.refusal, layer: fault.layer, place: fault.place, lower: Some(fault) }
+        Fault {
+            refusal: fault.refusal,
+            layer: fault.layer,
+            place: fault.place,
+            lower: Some(fault),
+        }
     }
 }

@@ -15,6 +15,7 @@ use crate::faults::StoreFault;
 pub trait ChainStore {
     // The store's layer, and the most units that it can have: what its faults and its bounds name.
     const LAYER: u8;
+
     const MOST: u32;
 
     // What the store means.
@@ -22,6 +23,7 @@ pub trait ChainStore {
 
     // The two numbers again, for statements.
     ghost layer: { ℕ };
+
     ghost most: { ℕ };
 
     // What always holds of it: code that is generic over the trait can use this.
