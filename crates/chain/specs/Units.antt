@@ -1,9 +1,13 @@
 -- Units of one size, and the chains that they make.
 -- Assumes nothing.
 use mathlib.Core.Path.{_≡_}
+use mathlib.Core.Bool.{cond}
 use mathlib.Core.List.{List}
 use Prim.Native.Nat.{ℕ, _+_, _*_, _<_, _≤_}
+use lib.Dec.{ltb}
 use lib.ListN.{length, getD, take, drop}
+use Rattle.std.specs.declared.option.Option.{Option}
+use Rattle.std.specs.declared.option.Option.the-variants.{Some, None}
 use Rattle.std.specs.shelf.Lists.{joined}
 use Rattle.links.specs.Links.{In, Apart}
 use Rattle.store.specs.Meaning.{Store, laid}
@@ -25,6 +29,10 @@ cell u bs p = take u (drop (p * u) bs)
 -- the bytes of a head's chain
 unfoldable pub content : View → ℕ → List ℕ
 content v h = joined (cell (v .unit) (v .bytes)) (v .path h)
+
+-- the chains of all heads: a head is what has a place on its chain
+abbrev pub chainsOf : View → ℕ → Option (List ℕ)
+chainsOf v h = cond (ltb 0 (length (v .path h))) (Some (content v h)) None
 
 -- a chain begins with its head, comes to no place twice, and lies within the bytes
 pub record Whole (v : View) : Type 0 where

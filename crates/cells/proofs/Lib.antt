@@ -1,0 +1,4 @@
+pub mod Seeks
+pub mod Paths
+pub mod Changes
+pub mod Stores
