@@ -2,3 +2,5 @@ pub mod Seeks
 pub mod Paths
 pub mod Changes
 pub mod Stores
+pub mod Joins
+pub mod Gives

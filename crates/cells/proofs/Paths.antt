@@ -16,6 +16,7 @@ use Rattle.std.proofs.shelf.Sums.{countBy-le-length}
 use Rattle.std.proofs.shelf.Tests.{cases-eq, cases-lt, cases-order, false≢true, ltb-true, ltb-false, lt-ltb, le-ltb, cond-true, cond-false}
 use Rattle.links.specs.Links.{FREE, live, at, In, Apart}
 use Rattle.links.proofs.Counts.{inside, live-count}
+use Rattle.cells.specs.declared.Cells.{Cells}
 use Rattle.cells.specs.Noted.{unitAt, found, run, path, Unique, Down, Named}
 use Rattle.cells.proofs.Seeks.{unit-found, unit-below, found-some, found-none}
 
@@ -25,6 +26,16 @@ pub record Sound (H R : List ℕ) : Type 0 where
   pub unique : Unique H R
   pub down : Down H R
   pub named : Named H R
+
+-- the invariant of the struct, as it is owed
+abbrev pub Kept : List ℕ → List ℕ → List ℕ → Type 0
+Kept H R B = (length H ≡ 64) × ((length R ≡ 64) × ((length B ≡ 32768) × (Unique H R × (Down H R × (Named H R × Unit {0})))))
+
+pub kept : (H R B : List ℕ) → Sound H R → length B ≡ 32768 → Kept H R B
+kept H R B s f = (s .heads, (s .ranks, (f, (s .unique, (s .down, (s .named, tt))))))
+
+pub sound-of : (c : Cells) → Sound (c .heads) (c .ranks)
+sound-of c = record { heads = c .headed; ranks = c .ranked; unique = c .unique; down = c .down; named = c .named }
 
 -- ps are the units of the ranks 0, 1, .. of h, and there is none of the next rank
 pub record IsPath (H R : List ℕ) (h : ℕ) (ps : List ℕ) : Type 0 where

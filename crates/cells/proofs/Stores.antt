@@ -146,7 +146,7 @@ laid-zeros : (xs : List ℕ) (m : ℕ) → length xs ≡ m → laid xs 0 (replic
 unfolding laid
 laid-zeros xs m e = same-lists _ _ (search (needs, places)) (λ k d l. grind (arith, places))
 
-one-free : (H : List ℕ) (u : ℕ) → u < length H → at H u ≡ FREE → 0 < countBy free H
+pub one-free : (H : List ℕ) (u : ℕ) → u < length H → at H u ≡ FREE → 0 < countBy free H
 one-free H u l e = omega (arith, rw (eq-eqb (at H u) FREE e) at (getD-le-sumBy (λ x. cond (free x) 1 0) H u FREE l))
 
 -- a free unit u is joined to the chain of h, and zeroed

@@ -2,7 +2,7 @@
 -- Assumes nothing.
 use mathlib.Core.Path.{_≡_}
 use mathlib.Core.Logic.{_≢_}
-use mathlib.Core.Bool.{Bool, cond, _&&_}
+use mathlib.Core.Bool.{Bool, cond, _&&_, _||_}
 use mathlib.Core.List.{List, [], _∷_}
 use Prim.Native.Nat.{ℕ, zero, suc, _-_, _<_}
 use lib.Dec.{eqb, ltb}
@@ -52,3 +52,7 @@ Down H R = (u : ℕ) → (at H u ≢ FREE) × (0 < getD R u 0) → unitAt H R (a
 -- the first unit of a chain names its head
 abbrev pub Named : List ℕ → List ℕ → Type 0
 Named H R = (u : ℕ) → (at H u ≢ FREE) × (getD R u 0 ≡ 0) → at H u ≡ u
+
+-- a free unit u can go to the end of the chain of h: h is a head, or will be, named by u
+abbrev pub joins : List ℕ → List ℕ → ℕ → ℕ → Bool
+joins H R u h = (ltb u 64 && (ltb h 64 && eqb (at H u) FREE)) && (ltb 0 (length (path H R h)) || eqb u h)

@@ -10,7 +10,7 @@ use Rattle.std.specs.declared.option.Option.{Option}
 use Rattle.std.specs.declared.option.Option.the-variants.{Some, None}
 use Rattle.std.specs.shelf.Lists.{countBy}
 use Rattle.links.specs.Links.{free}
-use Rattle.store.specs.Meaning.{Store, Notes, zeros, with-chain}
+use Rattle.store.specs.Meaning.{Store, Notes, bytesOf, zeros, with-chain}
 use Rattle.chain.specs.Units.{View, chainsOf}
 use Rattle.cells.specs.Noted.{path}
 
@@ -22,10 +22,14 @@ viewed H R B = record { unit = 512; bytes = B; path = path H R; kept = H ∷ R �
 abbrev pub stored : List ℕ → List ℕ → List ℕ → Notes → Store
 stored H R B n = record { unit = 512; chain = chainsOf (viewed H R B); room = countBy free H; notes = n }
 
+-- one unit of zeros more at the end of the chain of h, which may have none yet
+abbrev pub joinedTo : Store → ℕ → Store
+joinedTo m h = with-chain m h (Some (bytesOf m h ++ zeros m 1)) (m .room - 1)
+
 -- one unit of zeros more at the end of the chain of h, where h is a head and there is room
 abbrev pub lengthened : Option (List ℕ) → Store → ℕ → Store
 lengthened None m h = m
-lengthened (Some xs) m h = cond (ltb 0 (m .room)) (with-chain m h (Some (xs ++ zeros m 1)) (m .room - 1)) m
+lengthened (Some xs) m h = cond (ltb 0 (m .room)) (joinedTo m h) m
 
 abbrev pub given : Store → ℕ → Store
 given m h = lengthened (m .chain h) m h
