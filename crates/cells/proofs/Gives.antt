@@ -28,12 +28,12 @@ use Rattle.cells.proofs.Paths.{Sound, Kept, kept, sound-of}
 use Rattle.cells.proofs.Seeks.{free-found, free-none, found-some, found-none, unit-below, unit-is}
 use Rattle.cells.proofs.Stores.{head-small, notes-head, path-first, chain-some, chain-none, bytes-content, join-room, part-stored, one-free}
 
-some-found : (n u w : ℕ) → Some w ≡ found n u → (w ≡ u) × (u < n)
+pub some-found : (n u w : ℕ) → Some w ≡ found n u → (w ≡ u) × (u < n)
 some-found n u w e = ⊎-elim
     (λ l. (let t : Some w ≡ Some u = e ∙ sym (found-some n u l) in cc, l))
     (λ l. absurd (let t = e ∙ sym (found-none n u l) in let z : _≡_ {A = ℕ} 0 1 = cc in omega arith)) (cases-lt u n)
 
-none-found : (n u : ℕ) → None ≡ found n u → n ≤ u
+pub none-found : (n u : ℕ) → None ≡ found n u → n ≤ u
 none-found n u e = ⊎-elim
     (λ l. absurd (let t = e ∙ sym (found-some n u l) in let z : _≡_ {A = ℕ} 0 1 = cc in omega arith)) (λ l. l) (cases-lt u n)
 
@@ -71,9 +71,10 @@ module _ (c : Cells) (h k : ℕ) (units : k ≡ length (path (c .heads) (c .rank
     part-kept = kept _ (c .ranks) (c .bytes) (part-sound (c .heads) (c .ranks) (sound-of c) h u front small last) (c .filled)
 
     pub part-told : (n : Notes) → (true ≡ isSome (meant c n .chain h)) × (stored (set (c .heads) u FREE) (c .ranks) (c .bytes) n ≡ takenBack (meant c n) h)
-    part-told n =
-        (sym (ap isSome (chain-some (c .heads) (c .ranks) (sound-of c) (c .bytes) (c .filled) n h (omega arith))),
-        part-stored (c .heads) (c .ranks) (c .bytes) (sound-of c) (c .filled) n h u front small last)
+    part-told n = (
+      sym (ap isSome (chain-some (c .heads) (c .ranks) (sound-of c) (c .bytes) (c .filled) n h (omega arith))),
+      part-stored (c .heads) (c .ranks) (c .bytes) (sound-of c) (c .filled) n h u front small last,
+    )
 
 module _ (c : Cells) (n : Notes) where
   free-some : (u : ℕ) → Some u ≡ found 64 (freeUnit (c .heads)) → (u < 64) × (at (c .heads) u ≡ FREE)
@@ -101,7 +102,7 @@ module _ (c : Cells) (n : Notes) where
     give-more u r after d e q a =
         let t = free-some u e in
         let yes : joins (c .heads) (c .ranks) u h ≡ true = and-from _ _
-            (and-from _ _ (lt-ltb u 64 (t .0)) (and-from _ _ (lt-ltb h 64 (small c h k units d)) (eq-eqb _ FREE (t .1)))) (or-left _ _ (lt-ltb 0 _ (some-units d))) in
+        (and-from _ _ (lt-ltb u 64 (t .0)) (and-from _ _ (lt-ltb h 64 (small c h k units d)) (eq-eqb _ FREE (t .1)))) (or-left _ _ (lt-ltb 0 _ (some-units d))) in
         let room = one-free (c .heads) u (omega (arith, c .headed, t .0)) (t .1) in
         rw (here h (λ z. d (units ∙ z)), lt-ltb 0 (meant c n .room) room) (q ∙ yes, a ∙ cond-true r _ _ (q ∙ yes))
       where
@@ -119,13 +120,16 @@ module _ (c : Cells) (n : Notes) where
   start-some u r after e q a =
       let t = free-some u e in
       let empty : length (path (c .heads) (c .ranks) u) ≤ 0 = ⊎-elim
-          (λ l. absurd (let x = path-first (c .heads) (c .ranks) (sound-of c) u l in
-          let y = notes-head (c .heads) (c .ranks) (sound-of c) u _ (in-getD (path (c .heads) (c .ranks) u) 0 l) in
-          omega (arith, t .0, t .1, sym (ap (at (c .heads)) x) ∙ y)))
-          (λ l. l) (cases-lt 0 (length (path (c .heads) (c .ranks) u))) in
+      (λ l. absurd (let x = path-first (c .heads) (c .ranks) (sound-of c) u l in
+      let y = notes-head (c .heads) (c .ranks) (sound-of c) u _ (in-getD (path (c .heads) (c .ranks) u) 0 l) in
+      omega (arith, t .0, t .1, sym (ap (at (c .heads)) x) ∙ y)))
+      (λ l. l) (cases-lt 0 (length (path (c .heads) (c .ranks) u))) in
       let none = absent u (omega arith) in
       let yes : joins (c .heads) (c .ranks) u u ≡ true = and-from _ _
-          (and-from _ _ (lt-ltb u 64 (t .0)) (and-from _ _ (lt-ltb u 64 (t .0)) (eq-eqb _ FREE (t .1))))
-          (or-right (ltb 0 (length (path (c .heads) (c .ranks) u))) _ (eq-eqb u u refl)) in
-      (one-free (c .heads) u (omega (arith, c .headed, t .0)) (t .1), t .0, none,
-      a ∙ cond-true r _ _ (q ∙ yes) ∙ ap (λ xs. with-chain (meant c n) u (Some (xs ++ zeros (meant c n) 1)) (meant c n .room - 1)) (ap (λ o. valueOr o []) none))
+      (and-from _ _ (lt-ltb u 64 (t .0)) (and-from _ _ (lt-ltb u 64 (t .0)) (eq-eqb _ FREE (t .1))))
+      (or-right (ltb 0 (length (path (c .heads) (c .ranks) u))) _ (eq-eqb u u refl)) in (
+        one-free (c .heads) u (omega (arith, c .headed, t .0)) (t .1),
+        t .0,
+        none,
+        a ∙ cond-true r _ _ (q ∙ yes) ∙ ap (λ xs. with-chain (meant c n) u (Some (xs ++ zeros (meant c n) 1)) (meant c n .room - 1)) (ap (λ o. valueOr o []) none),
+      )

@@ -4,3 +4,4 @@ pub mod Changes
 pub mod Stores
 pub mod Joins
 pub mod Gives
+pub mod Along

@@ -126,8 +126,8 @@ run-full H R h n u e f ps l m =
     let qs = ps ++ u ∷ [] in
     let k = length-push ps u in
     let each : (r : ℕ) → r < length qs → (at H (getD qs r 0) ≡ h) × (getD R (getD qs r 0) 0 ≡ r) =
-        λ r i. ⊎-elim (λ j. rw (getD-append-left ps (u ∷ []) 0 r j) (m r j))
-        (λ j. let s : length ps ≡ r = omega arith in rw (getD-push ps u 0 r s) (e, f ∙ omega arith)) (cases-lt r (length ps)) in
+    λ r i. ⊎-elim (λ j. rw (getD-append-left ps (u ∷ []) 0 r j) (m r j))
+    (λ j. let s : length ps ≡ r = omega arith in rw (getD-push ps u 0 r s) (e, f ∙ omega arith)) (cases-lt r (length ps)) in
     let c = live-count H qs (noted-apart H R h qs each) (λ x i s. n (sym (noted-heads H R h qs each x i) ∙ s)) in
     omega (arith, countBy-le-length live H)
 
@@ -203,3 +203,9 @@ module _ (R : List ℕ) where
       none zero h m = refl
       none (suc n) h m = cond-false _ _ _ (le-ltb (unitAt (replicate 64 FREE) R h 0) 64 (⊎-elim
           (λ l. absurd (m (sym (unit-found (replicate 64 FREE) R h 0 l .0) ∙ fresh-free (unitAt (replicate 64 FREE) R h 0)))) (λ l. l) (cases-lt (unitAt (replicate 64 FREE) R h 0) 64)))
+
+pub path-short : (H R : List ℕ) (h : ℕ) → length (path H R h) ≤ length H
+unfolding path
+path-short H R h = ⊎-elim
+    (λ l. rw (lt-ltb h (length H) l) (run-short H R h (length H) 0))
+    (λ l. rw (le-ltb h (length H) l) (omega arith)) (cases-lt h (length H))

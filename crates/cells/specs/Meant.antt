@@ -24,3 +24,11 @@ within m h end = leb end (length (bytesOf m h))
 abbrev pub Starts : Option ℕ → Store → Store → Type 0
 Starts None m after = (m .room ≡ 0) × (after ≡ m)
 Starts (Some h) m after = (0 < m .room) × (h < 64) × (m .chain h ≡ None) × (after ≡ with-chain m h (Some (zeros m 1)) (m .room - 1))
+
+abbrev pub covered : Option (List ℕ) → Store → ℕ → ℕ → List ℕ → Store
+covered None m h at src = m
+covered (Some xs) m h at src = with-chain m h (Some (laid xs at src)) (m .room)
+
+-- bytes laid over those of the chain of h, which may be none where there are none to lay
+abbrev pub overlaid : Store → ℕ → ℕ → List ℕ → Store
+overlaid m h at src = covered (m .chain h) m h at src

@@ -18,18 +18,22 @@ use links::consts::FREE_SECTOR;
 
 const UNITS: u32 = 64;
 
-const UNIT: usize = 512;
+pub(crate) const UNIT: usize = 512;
 
 impl Cells {
     // All units on no chain.
     pub fn new() -> Cells
         ensures { λ r. ⌜ ((n : Notes) → (h : ℕ) → meant r n .chain h ≡ None) × ((n : Notes) → meant r n .room ≡ 64) ⌝ }
     {
-        Cells { heads: [FREE_SECTOR; 64], ranks: [0; 64], bytes: [0; 32768] }
+        Cells {
+            heads: [FREE_SECTOR; 64],
+            ranks: [0; 64],
+            bytes: [0; 32768],
+        }
     }
 
     // The unit that notes this head and rank.
-    fn find(&self, head: u32, rank: u32) -> Option<u32>
+    pub(crate) fn find(&self, head: u32, rank: u32) -> Option<u32>
         ensures { λ r. ⌜ r ≡ found 64 (unitAt (now (self .entry) .heads) (now (self .entry) .ranks) head rank) ⌝ }
     {
         for unit in 0..UNITS {

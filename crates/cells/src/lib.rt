@@ -5,6 +5,7 @@ ghost use lib.ListN.{length};
 ghost use mathlib.Core.Path.{_≡_};
 
 pub mod calls;
+pub mod copies;
 
 // The head that each unit notes, FREE where it is on no chain; the rank; and the bytes of all units.
 #[derive(Drop)]

@@ -11,7 +11,7 @@ returns-then-units-eq0 c =
 pub returns-in-Some : need.returns-in-Some
 returns-in-Some c =
     let t = λ (n : Notes). give-more (c .args .self .now) n (c .args .head) _ (c .units .ensures) (c .in-Some .unit) _ _ (c .if-units-eq0 .left) (c .in-Some .ensures tt)
-        (c .join .ensures .told) (c .join .ensures .left n) in
+    (c .join .ensures .told) (c .join .ensures .left n) in
     record { told = λ n. t n .0; left = λ n. t n .1 }
 
 pub returns-in-None : need.returns-in-None

@@ -30,5 +30,5 @@ pub returns : need.returns
 returns c =
     let s = c .args .self .now in
     let j : Joining (s .heads) (s .ranks) (s .bytes) (c .args .unit) (c .args .head) (c .units-rank .result) (c .copy-from-slice .last .self) =
-        search (needs, sound-of) in
+    search (needs, sound-of) in
     record { told = joined-told _ _ _ _ _ _ _ j; left = joined-stored _ _ _ _ _ _ _ j }
