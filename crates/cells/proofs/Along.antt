@@ -14,7 +14,7 @@ use Rattle.std.specs.shelf.Lists.{countBy}
 use Rattle.std.proofs.shelf.Lists.{nil-from-length}
 use Rattle.std.proofs.shelf.Tests.{cases-eq, cases-lt, leb-true, leb-false, le-leb, lt-leb, lt-ltb, le-ltb, cond-true, cond-false}
 use Rattle.links.specs.Links.{free, In}
-use Rattle.store.specs.Meaning.{Notes, Store, laid, bytesOf}
+use Rattle.store.specs.Meaning.{Notes, Store, laid, bytesOf, unitsOf}
 use Rattle.chain.specs.Units.{View, Whole, content, chainsOf, put, Wrote}
 use borrow.Rule.Slice.PartMut.{putMid}
 use Rattle.chain.proofs.Laid.{laid-put, length-laid}
@@ -27,7 +27,7 @@ use Rattle.cells.specs.Stored.{viewed, stored}
 use Rattle.cells.proofs.Changes.{is}
 use Rattle.cells.proofs.Paths.{Kept, kept, sound-of, path-short}
 use Rattle.cells.proofs.Seeks.{unit-is, unit-below}
-use Rattle.cells.proofs.Stores.{head-small, notes-head, viewed-whole, chain-some, chain-none, bytes-content, content-long, stored-as}
+use Rattle.cells.proofs.Stores.{head-small, notes-head, units-path, viewed-whole, chain-some, chain-none, bytes-content, content-long, stored-as}
 use Rattle.cells.proofs.Gives.{some-found, none-found}
 
 -- some notes, where it does not matter which
@@ -143,3 +143,18 @@ module _ (c : Cells) (i : ℕ) (ys zs : List ℕ) (e : ys ≡ zs) (fits : i + le
 
   pub written-whole : Whole (viewed (c .heads) (c .ranks) (putMid i (i + length zs - i) (c .bytes) ys))
   written-whole = viewed-whole (c .heads) (c .ranks) (sound-of c) _ long
+
+-- what the number of a head's units tells of its chain
+pub record Counts (k : ℕ) (m : Store) (h : ℕ) : Type 0 where
+  pub told : k ≡ unitsOf m h
+  pub none : k ≡ 0 → m .chain h ≡ None
+  pub some : k ≢ 0 → (xs : List ℕ) × (m .chain h ≡ Some xs) × (length xs ≡ k * 512)
+
+pub counts : (c : Cells) (n : Notes) (h k : ℕ) → k ≡ length (path (c .heads) (c .ranks) h) → Counts k (meant c n) h
+counts c n h k e = record {
+  told = e ∙ sym (units-path (c .heads) (c .ranks) (sound-of c) (c .bytes) (c .filled) n h);
+  none = λ z. chain-none (c .heads) (c .ranks) (sound-of c) (c .bytes) (c .filled) n h (omega arith);
+  some = λ d. (content (viewed (c .heads) (c .ranks) (c .bytes)) h,
+      chain-some (c .heads) (c .ranks) (sound-of c) (c .bytes) (c .filled) n h (omega arith),
+      content-long (c .heads) (c .ranks) (sound-of c) (c .bytes) (c .filled) n h ∙ ap (λ x. x * 512) (sym e));
+}
