@@ -154,7 +154,9 @@ pub counts : (c : Cells) (n : Notes) (h k : ℕ) → k ≡ length (path (c .head
 counts c n h k e = record {
   told = e ∙ sym (units-path (c .heads) (c .ranks) (sound-of c) (c .bytes) (c .filled) n h);
   none = λ z. chain-none (c .heads) (c .ranks) (sound-of c) (c .bytes) (c .filled) n h (omega arith);
-  some = λ d. (content (viewed (c .heads) (c .ranks) (c .bytes)) h,
-      chain-some (c .heads) (c .ranks) (sound-of c) (c .bytes) (c .filled) n h (omega arith),
-      content-long (c .heads) (c .ranks) (sound-of c) (c .bytes) (c .filled) n h ∙ ap (λ x. x * 512) (sym e));
+  some = λ d. (
+    content (viewed (c .heads) (c .ranks) (c .bytes)) h,
+    chain-some (c .heads) (c .ranks) (sound-of c) (c .bytes) (c .filled) n h (omega arith),
+    content-long (c .heads) (c .ranks) (sound-of c) (c .bytes) (c .filled) n h ∙ ap (λ x. x * 512) (sym e),
+  );
 }

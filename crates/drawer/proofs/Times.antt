@@ -52,7 +52,7 @@ times-given m h xs (suc n) e l =
         let room = lt-ltb 0 (m .room - n) (omega arith) in
         let long : n * m .unit + 1 * m .unit ≡ suc n * m .unit = omega (arith, suc-mul n (m .unit), suc-mul 0 (m .unit), zero-mul (m .unit)) in
         let more : (xs ++ zeros m n) ++ zeros m 1 ≡ xs ++ zeros m (suc n) =
-            append-assoc xs (zeros m n) (zeros m 1) ∙ ap (λ ys. xs ++ ys) (replicate-append-replicate (n * m .unit) (1 * m .unit) 0 ∙ ap (λ k. replicate k 0) long) in
+        append-assoc xs (zeros m n) (zeros m 1) ∙ ap (λ ys. xs ++ ys) (replicate-append-replicate (n * m .unit) (1 * m .unit) 0 ∙ ap (λ k. replicate k 0) long) in
         let less : m .room - n - 1 ≡ m .room - suc n = omega arith in
         let bytes : bytesOf (with-chain m h (Some (xs ++ zeros m n)) (m .room - n)) h ≡ xs ++ zeros m n = ap (λ o. valueOr o []) here in
         rw (here, room) (chain-twice m h (Some (xs ++ zeros m n)) (Some (bytesOf (with-chain m h (Some (xs ++ zeros m n)) (m .room - n)) h ++ zeros m 1)) (m .room - n) (m .room - n - 1) ∙ ap (λ ys. with-chain m h (Some (ys ++ zeros m 1)) (m .room - n - 1)) bytes ∙ rw (more, less))

@@ -8,18 +8,21 @@ use Prim.Native.Nat.{ℕ, suc, _+_, _-_, _*_, _<_, _≤_}
 use native.Mathlib.Nat.{add-mul, suc-mul, zero-mul}
 use native.Mathlib.Omega.{arith}
 use lib.Dec.{eqb, ltb, leb}
-use lib.ListN.{length, take, drop, replicate}
+use lib.ListN.{length, getD, take, drop, replicate}
+use Rattle.std.specs.Finite.{nth}
 use Rattle.std.specs.Options.{valueOr}
 use Rattle.std.specs.declared.option.Option.{Option}
 use Rattle.std.specs.declared.option.Option.the-variants.{Some, None}
 use Rattle.std.specs.declared.result.Result.{Result}
 use Rattle.std.specs.declared.result.Result.the-variants.{Ok, Err}
-use Rattle.std.proofs.shelf.Lists.{replicate-append-replicate}
-use Rattle.std.proofs.shelf.Maps.{update-here}
-use Rattle.std.proofs.shelf.Tests.{leb-true, leb-false, lt-ltb, le-ltb, eq-eqb, ne-eqb, or-left, or-right, or-from, cond-true, cond-false}
+use Rattle.std.proofs.shelf.Lists.{replicate-append-replicate, set-past}
+use Rattle.std.proofs.shelf.Maps.{update-here, nth-getD, nth-past}
+use Rattle.std.proofs.shelf.Tests.{leb-true, leb-false, ltb-false, lt-ltb, le-ltb, eq-eqb, ne-eqb, or-left, or-right, or-from, cond-true, cond-false}
+use Rattle.store.specs.declared.entries.Entry.{Entry}
+use Rattle.store.specs.declared.faults.Refusal.the-variants.{NoEntry}
 use Rattle.store.specs.declared.faults.StoreFault.{StoreFault}
 use Rattle.store.specs.Refusals.{Refused, refusedBy, answer, unless}
-use Rattle.store.specs.Meaning.{Store, bytesOf, unitsOf, zeros, laid, with-chain, headed, refuse, dueHead, dueCopy, dueBegin, dueExtend, dueCut, readInto, wrote, extended, cutTo, freed, Begins}
+use Rattle.store.specs.Meaning.{Store, bytesOf, unitsOf, zeros, laid, with-chain, headed, refuse, dueHead, dueCopy, dueBegin, dueExtend, dueCut, readInto, wrote, extended, cutTo, freed, Begins, entryOr, dueEntry, with-notes, moved, entered}
 use Rattle.cells.specs.Meant.{within, overlaid, Starts}
 use Rattle.cells.specs.Stored.{given, takenBack}
 use Rattle.cells.specs.Noted.{path}
@@ -69,20 +72,22 @@ module _ (m : Store) (h k : ℕ) (unit : m .unit ≡ 512) (c : Counts k m h) (d 
 
   pub extend-yes : (n : ℕ) → n ≤ m .room → Accepted (dueExtend m 2 h n) × (times n (λ s. given s h) m ≡ extended m 2 h n)
   extend-yes n l =
-      let none : dueExtend m 2 h n ≡ None = headed-here _ ∙ cond-false _ _ _ (le-ltb (m .room) n l) in
-      (accepted _ none,
-      times-given m h xs n chain-here l ∙ ap (λ ys. with-chain m h (Some (ys ++ zeros m n)) (m .room - n)) (sym bytes-here)
-      ∙ sym (ap (λ x. unless x m (with-chain m h (Some (bytesOf m h ++ zeros m n)) (m .room - n))) none))
+      let none : dueExtend m 2 h n ≡ None = headed-here _ ∙ cond-false _ _ _ (le-ltb (m .room) n l) in (
+        accepted _ none,
+        times-given m h xs n chain-here l ∙ ap (λ ys. with-chain m h (Some (ys ++ zeros m n)) (m .room - n)) (sym bytes-here)
+            ∙ sym (ap (λ x. unless x m (with-chain m h (Some (bytesOf m h ++ zeros m n)) (m .room - n))) none),
+      )
 
   long : length xs ≡ k * 512
   unfolding xs
   long = c .some d .2
 
   pub free-yes : Accepted (dueHead m 2 h) × (times k (λ s. takenBack s h) m ≡ freed m 2 h)
-  free-yes =
-      (accepted _ (headed-here None),
-      times-taken m h xs k k chain-here long (omega arith) (omega arith) ∙ rw (le-ltb k k (omega arith), c .told)
-      (sym (ap (λ x. unless x m (with-chain m h None (m .room + unitsOf m h))) (headed-here None))))
+  free-yes = (
+    accepted _ (headed-here None),
+    times-taken m h xs k k chain-here long (omega arith) (omega arith) ∙ rw (le-ltb k k (omega arith), c .told)
+        (sym (ap (λ x. unless x m (with-chain m h None (m .room + unitsOf m h))) (headed-here None))),
+  )
 
   -- cutting to n units
   module _ (n : ℕ) where
@@ -94,11 +99,12 @@ module _ (m : Store) (h k : ℕ) (unit : m .unit ≡ 512) (c : Counts k m h) (d 
         let none : dueCut m 2 h n ≡ None = headed-here _ ∙ cond-false _ _ _ (or-from _ _ (ne-eqb n 0 z) (le-ltb (unitsOf m h) n (omega (arith, c .told)))) in
         let q : k - (k - n) ≡ n = omega arith in
         let r : m .room + (k - n) ≡ m .room + (unitsOf m h - n) = omega (arith, c .told) in
-        let u : n * 512 ≡ n * m .unit = ap (λ x. n * x) (sym unit) in
-        (accepted _ none,
-        times-taken m h xs k (k - n) chain-here long (omega arith) (omega arith) ∙ rw (lt-ltb (k - n) k (omega arith), q, r, u)
-        (ap (λ ys. with-chain m h (Some (take (n * m .unit) ys)) (m .room + (unitsOf m h - n))) (sym bytes-here)
-        ∙ sym (ap (λ x. unless x m (with-chain m h (Some (take (n * m .unit) (bytesOf m h))) (m .room + (unitsOf m h - n)))) none)))
+        let u : n * 512 ≡ n * m .unit = ap (λ x. n * x) (sym unit) in (
+          accepted _ none,
+          times-taken m h xs k (k - n) chain-here long (omega arith) (omega arith) ∙ rw (lt-ltb (k - n) k (omega arith), q, r, u)
+              (ap (λ ys. with-chain m h (Some (take (n * m .unit) ys)) (m .room + (unitsOf m h - n))) (sym bytes-here)
+              ∙ sym (ap (λ x. unless x m (with-chain m h (Some (take (n * m .unit) (bytesOf m h))) (m .room + (unitsOf m h - n)))) none)),
+        )
 
 -- beginning n units
 module _ (m one : Store) (h n : ℕ) (some : n ≢ 0) (room : n ≤ m .room) where
@@ -106,11 +112,14 @@ module _ (m one : Store) (h n : ℕ) (some : n ≢ 0) (room : n ≤ m .room) whe
   begin-none s = omega (arith, s .0)
 
   pub begin-some : Starts (Some h) m one → Begins m 2 n (Ok h) (times (n - 1) (λ s. given s h) one)
-  begin-some s =
-      (cond-false _ _ _ (ne-eqb n 0 some) ∙ cond-false _ _ _ (le-ltb (m .room) n room), s .2, omega (arith, s .1),
-      rw (s .3) (times-given (with-chain m h (Some (zeros m 1)) (m .room - 1)) h (zeros m 1) (n - 1) (update-here (m .chain) h (Some (zeros m 1))) (omega arith)
-      ∙ chain-twice m h (Some (zeros m 1)) (Some (zeros m 1 ++ zeros m (n - 1))) (m .room - 1) (m .room - 1 - (n - 1))
-      ∙ rw (all, less)))
+  begin-some s = (
+    cond-false _ _ _ (ne-eqb n 0 some) ∙ cond-false _ _ _ (le-ltb (m .room) n room),
+    s .2,
+    omega (arith, s .1),
+    rw (s .3) (times-given (with-chain m h (Some (zeros m 1)) (m .room - 1)) h (zeros m 1) (n - 1) (update-here (m .chain) h (Some (zeros m 1))) (omega arith)
+        ∙ chain-twice m h (Some (zeros m 1)) (Some (zeros m 1 ++ zeros m (n - 1))) (m .room - 1) (m .room - 1 - (n - 1))
+        ∙ rw (all, less)),
+  )
     where
       sum : 1 * m .unit + (n - 1) * m .unit ≡ n * m .unit
       sum = let q : 1 + (n - 1) ≡ n = omega arith in sym (add-mul 1 (n - 1) (m .unit)) ∙ ap (λ x. x * m .unit) q
@@ -133,3 +142,22 @@ accepted-left due old new after q e = rw q e
 
 pub counted : (d : Drawer) (h k : ℕ) → k ≡ length (path (d .cells .heads) (d .cells .ranks) h) → Counts k (drawn d) h
 counted d h k e = counts (d .cells) (noted d) h k e
+
+-- the entry with an id
+module _ (es : List Entry) (layer id : ℕ) where
+  pub entry-some : id < length es → _≡_ {A = Result Entry Refused} (Ok (getD es id (record { kind = 0; start = 0; length = 0 }))) (entryOr (nth es id) layer id)
+  entry-some l = rw (nth-getD es id (record { kind = 0; start = 0; length = 0 }) l)
+
+  pub entry-none : length es ≤ id → (f : StoreFault) → f ≡ record { refusal = NoEntry; layer = layer; place = id }
+      → _≡_ {A = Result Entry Refused} (Err (refusedBy f)) (entryOr (nth es id) layer id)
+  entry-none l f e = rw (nth-past es id l, e)
+
+-- setting start and length of an entry
+module _ (m : Store) (layer id start long : ℕ) where
+  pub entered-yes : true ≡ ltb id (length (m .notes .entries)) → Accepted (dueEntry m layer id) × (with-notes m (moved (m .notes .entries) id start long) (m .notes .words) ≡ entered m layer id start long)
+  entered-yes e = rw (sym e) (refl, refl)
+
+  pub entered-no : (f : StoreFault) → false ≡ ltb id (length (m .notes .entries)) → f ≡ record { refusal = NoEntry; layer = layer; place = id }
+      → _≡_ {A = Result (Unit {0}) Refused} (Err (refusedBy f)) (answer {A = Unit {0}} (dueEntry m layer id) tt)
+      × (with-notes m (moved (m .notes .entries) id start long) (m .notes .words) ≡ entered m layer id start long)
+  entered-no f e g = rw (sym e, g) (refl, ap (λ es. with-notes m es (m .notes .words)) (set-past (m .notes .entries) id _ (ltb-false id _ (sym e))))

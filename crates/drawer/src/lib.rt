@@ -4,9 +4,11 @@ ghost use Prim.Native.Nat.{ℕ, _+_};
 ghost use Rattle.cells.proofs.Paths.{sound-of as soundOf};
 ghost use Rattle.cells.proofs.Stores.{lawful as lawfully};
 ghost use Rattle.cells.specs.Stored.{given, takenBack};
-ghost use Rattle.drawer.specs.Drawn.{noted, drawn, times};
+ghost use Rattle.drawer.specs.Drawn.{noted, drawn, fresh, times};
 ghost use Rattle.std.specs.declared.option.Option.the-variants.{None};
-ghost use Rattle.store.specs.Refusals.{refusedBy};
+ghost use Rattle.store.specs.Meaning.{moved};
+ghost use lib.Dec.{ltb};
+ghost use lib.ListN.{length};
 ghost use mathlib.Core.Path.{_≡_};
 use cells::Cells;
 use links::consts::END_OF_CHAIN;
@@ -35,14 +37,64 @@ pub struct Drawer {
     words: Words,
 }
 
+impl Table {
+    // How many entries there are.
+    fn len(&self) -> u32
+        ensures told { λ r. ⌜ r ≡ length (now (self .entry) .entries) ⌝ }
+        ensures sixteen { λ r. ⌜ r ≡ 16 ⌝ }
+    {
+        let all = &self.entries[..];
+        all.len() as u32
+    }
+
+    // One entry is handed to be altered, its start and its length; the others keep their values. False where there is
+    // no such entry.
+    fn alter(&mut self, id: u32, start: u32, len: u32) -> bool
+        ensures told { λ r. ⌜ r ≡ ltb id (length (now (self .entry) .entries)) ⌝ }
+        ensures left { λ _. ⌜ now (self .exit) .entries ≡ moved (now (self .entry) .entries) id start len ⌝ }
+    {
+        if id >= self.len() {
+            return false;
+        }
+        let entry = &mut self.entries[id as usize];
+        entry.start = start;
+        entry.length = len as u64;
+        true
+    }
+}
+
 // A refusal of the drawer.
 fn fault(refusal: Refusal, place: u32) -> StoreFault
     ensures { λ r. ⌜ r ≡ record { refusal = refusal; layer = 2; place = place } ⌝ }
 {
-    StoreFault { refusal, layer: DrawerStore::LAYER, place }
+    StoreFault {
+        refusal,
+        layer: DrawerStore::LAYER,
+        place,
+    }
 }
 
 impl Drawer {
+    // A drawer with no chain: entry 0 is the root, the others are streams, and all are empty.
+    pub fn new() -> Drawer
+        ensures { λ r. ⌜ drawn r ≡ fresh ⌝ }
+    {
+        let mut entries = [Entry {
+            kind: OBJ_TYPE_STREAM,
+            start: END_OF_CHAIN,
+            length: 0,
+        }; 16];
+        entries[0].kind = OBJ_TYPE_ROOT;
+        Drawer {
+            cells: Cells::new(),
+            table: Table { entries },
+            words: Words {
+                start: END_OF_CHAIN,
+                count: 0,
+            },
+        }
+    }
+
     // So many units of zeros more at the end of a chain, as far as there is room.
     fn grow(&mut self, head: u32, count: u32)
         ensures { λ _. ⌜ drawn (now (self .exit)) ≡ times count (λ m. given m head) (drawn (now (self .entry))) ⌝ }
@@ -64,6 +116,7 @@ impl Drawer {
 
 pub impl ChainStore for Drawer as DrawerStore {
     const LAYER: u8 = 2;
+
     const MOST: u32 = 64;
 
     ghost meaning = { drawn };
@@ -160,5 +213,34 @@ pub impl ChainStore for Drawer as DrawerStore {
         }
         self.shrink(head, units);
         Ok(())
+    }
+}
+
+pub impl Host for Drawer as DrawerHost {
+    fn entries(&mut self) -> u32 {
+        self.table.len()
+    }
+
+    fn entry(&mut self, id: u32) -> Result<Entry, StoreFault> {
+        if id >= self.table.len() {
+            return Err(fault(Refusal::NoEntry, id));
+        }
+        Ok(self.table.entries[id as usize])
+    }
+
+    fn set_entry(&mut self, id: u32, start: u32, len: u32) -> Result<(), StoreFault> {
+        if self.table.alter(id, start, len) {
+            Ok(())
+        } else {
+            Err(fault(Refusal::NoEntry, id))
+        }
+    }
+
+    fn words(&mut self) -> Words {
+        self.words
+    }
+
+    fn set_words(&mut self, start: u32, count: u32) {
+        self.words = Words { start, count };
     }
 }
