@@ -32,3 +32,9 @@ Pushes word L r M = Joins (shortOf word) L r M
 abbrev pub Lists : Listing → List ℕ → ℕ → Bool → Type 0
 Lists Free L p r = (r ≡ true) ↔ (nth L p ≡ Some FREE)
 Lists OnNoChain L p r = (r ≡ true) ↔ ((nth L p ≡ Some FREE → ⊥) × (OnChain (at L) p → ⊥))
+
+-- two numbers, where both are there
+abbrev pub both : Option ℕ → Option ℕ → Option (ℕ × ℕ)
+both None o = None
+both (Some a) None = None
+both (Some a) (Some b) = Some (a, b)

@@ -15,8 +15,6 @@ use script::number_32;
 use std::alloc::Global;
 use std::error::AnyError;
 use std::fmt;
-use std::io::BufRead;
-use std::io::BufReader;
 
 // Why a word does not go into the table.
 #[derive(Clone, Copy, PartialEq, Eq, Debug)]
@@ -64,13 +62,12 @@ fn read_line(table: &mut Links, heap: Global, line: &str, number: u64) -> Result
     Ok(())
 }
 
-fn read_table(rt: &LibcRuntime) -> Result<Links, AnyError> {
-    let heap = rt.alloc();
+fn read_table(heap: Global, text: &str) -> Result<Links, AnyError> {
     let mut table = Links::new();
     let mut number = 0u64;
-    for line in BufReader::new(rt.stdin()).lines(heap) {
+    for line in text.lines() {
         number = number.saturating_add(1);
-        read_line(&mut table, heap, line?.as_str(), number)?;
+        read_line(&mut table, heap, line, number)?;
     }
     Ok(table)
 }
@@ -168,8 +165,8 @@ impl fmt::Display for Report<'_> as ReportDisplay {
     }
 }
 
-pub fn run(rt: &LibcRuntime) -> Result<(), AnyError> {
-    let table = read_table(rt)?;
+pub fn run(rt: &LibcRuntime, text: &str) -> Result<(), AnyError> {
+    let table = read_table(rt.alloc(), text)?;
     rt.print(Report(&table))?;
     Ok(())
 }

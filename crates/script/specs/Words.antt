@@ -2,7 +2,8 @@
 -- Assumes nothing.
 use mathlib.Core.Bool.{Bool, cond, _&&_}
 use mathlib.Core.List.{List, [], _∷_}
-use Prim.Native.Nat.{ℕ, _+_, _-_, _*_, _^_}
+use Prim.Native.Nat.{ℕ, _+_, _-_, _*_, _%_, _^_}
+use lib.Bits.{bitXor}
 use lib.Chars.{codes}
 use lib.Dec.{eqb, leb, ltb}
 use lib.ListN.{length, drop, getD}
@@ -49,3 +50,11 @@ within32 (Some n) = cond (leb n 0xffffffff) (Some n) None
 
 abbrev pub shortOf : List ℕ → Option ℕ
 shortOf w = within32 (numberOf w)
+
+-- the byte that two hexadecimal digits write
+abbrev pub byteOf : ℕ → ℕ → Option ℕ
+byteOf high low = cond (ltb (worth high) 16 && ltb (worth low) 16) (Some (worth high * 16 + worth low)) None
+
+-- one step of FNV-1a
+abbrev pub hashed : ℕ → ℕ → ℕ
+hashed h b = (bitXor h b * 0x100000001b3) % (2 ^ 64)

@@ -1,6 +1,7 @@
 //! The words of a script: numbers, and the names of two links.
 
-ghost use Rattle.script.specs.Words.{worth, more, numeral, hexed, numberOf, shortOf};
+ghost use Rattle.script.specs.Words.{worth, more, numeral, hexed, numberOf, shortOf, byteOf, hashed};
+ghost use Rattle.std.specs.Iters.{folded};
 ghost use Rattle.std.specs.declared.option.Option.the-variants.{Some};
 ghost use mathlib.Core.Path.{_≡_};
 
@@ -76,4 +77,28 @@ pub fn number_32(word: &str) -> Option<u32>
         Some(n) if n <= 0xffff_ffff => Some(n as u32),
         _ => None,
     }
+}
+
+// The byte that two hexadecimal digits write.
+pub fn hex_byte(high: u8, low: u8) -> Option<u8>
+    ensures { λ r. ⌜ r ≡ byteOf high low ⌝ }
+{
+    let first = digit(high);
+    let second = digit(low);
+    if first < 16 && second < 16 {
+        Some((first * 16 + second) as u8)
+    } else {
+        None
+    }
+}
+
+// The 64-bit FNV-1a hash of bytes.
+pub fn fnv(bytes: &[u8]) -> u64
+    ensures { λ r. ⌜ r ≡ folded hashed 0xcbf29ce484222325 (now (bytes .entry)) ⌝ }
+{
+    let mut hash: u64 = 0xcbf2_9ce4_8422_2325;
+    for byte in bytes {
+        hash = (hash ^ *byte as u64).wrapping_mul(0x100_0000_01b3);
+    }
+    hash
 }
