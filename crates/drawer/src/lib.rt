@@ -21,6 +21,9 @@ use store::faults::StoreFault;
 use store::stores::ChainStore;
 use store::stores::Host;
 
+#[cfg(test)]
+mod tests;
+
 const UNIT: u32 = 512;
 
 // The directory entries.
