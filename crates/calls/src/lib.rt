@@ -1,5 +1,7 @@
 //! What a script says: chain calls, what a store answers to them, and link tables.
 
+#![tactic(auto)]
+
 pub mod answers;
 pub mod lines;
 pub mod tables;

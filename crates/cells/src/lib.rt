@@ -1,5 +1,7 @@
 //! Units kept in memory, 64 of 512 bytes, each noting the head of its chain and its rank in it.
 
+#![tactic(auto)]
+
 ghost use Rattle.cells.specs.Noted.{Unique, Down, Named};
 ghost use Rattle.std.specs.Prelude.{◌≡◌, length};
 

@@ -1,5 +1,7 @@
 //! `cfbook`: works on the parts of a workbook file. Each task is a module; nothing but input and output is here.
 
+#![tactic(auto)]
+
 use drawer::Drawer;
 use std::{env, fs, io};
 

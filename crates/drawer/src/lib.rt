@@ -1,5 +1,7 @@
 //! The drawer: a host kept in memory, of 64 units of 512 bytes and 16 entries.
 
+#![tactic(auto)]
+
 ghost use Rattle.std.specs.Prelude.{◌≡◌, ℕ, ◌+◌, length, None, nat_lt};
 ghost use Rattle.cells.proofs.Paths.{sound_of as soundOf};
 ghost use Rattle.cells.proofs.Stores.{lawful as lawfully};

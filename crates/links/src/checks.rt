@@ -42,9 +42,9 @@ impl LinkFault {
 // Looks at each place, rising from 0, and refuses at the first that has a fault. A table of marks says which pointers
 // were met, so that each place is looked at once.
 pub fn check<T: LinkTable>(table: &T) -> Result<(), LinkFault>
-    ensures told { result ≡ verdict (links table.now) }
-    ensures lowest { Lowest (links table.now) result }
-    ensures decides { (result ≡ Ok tt) ↔ Checked (at (links table.now)) }
+    ensures told { result ≡ verdict (T.links table.now) }
+    ensures lowest { Lowest (T.links table.now) result }
+    ensures decides { (result ≡ Ok tt) ↔ Checked (at (T.links table.now)) }
 {
     let mut met = [false; 4096];
     for place in 0..table.count() {

@@ -3,6 +3,8 @@
 //! A compound file chains its sectors by such a table (the FAT), and its mini sectors by another (the MiniFAT).
 //! What a table means is a list of 32-bit numbers. Everything here is written once, for every kind of table.
 
+#![tactic(auto)]
+
 ghost use Rattle.std.specs.Prelude.{◌≡◌, ℕ, ◌≤◌, List, length, nat_lt, slice_set};
 ghost use Rattle.std.specs.List.{slice_get};
 

@@ -34,9 +34,9 @@ pub struct Surveyed {
 // Follows the links from the link `from` on, at most `most` of them, and while there is a link. So it ends on a table
 // with a ring too.
 pub fn follow<T: LinkTable>(table: &T, from: u32, most: u32) -> Followed
-    ensures places { result.places ≡ length (trace most (links table.now) from) }
-    ensures stop { result.stop ≡ stop most (links table.now) from }
-    ensures last { result.last ≡ last_or from (trace most (links table.now) from) }
+    ensures places { result.places ≡ length (trace most (T.links table.now) from) }
+    ensures stop { result.stop ≡ stop most (T.links table.now) from }
+    ensures last { result.last ≡ last_or from (trace most (T.links table.now) from) }
 {
     let mut link = from;
     let mut last = from;
@@ -60,8 +60,8 @@ pub fn follow<T: LinkTable>(table: &T, from: u32, most: u32) -> Followed
 
 // The walk, without the last place that it met.
 pub fn walk<T: LinkTable>(table: &T, from: u32, most: u32) -> Walked
-    ensures places { result.places ≡ length (trace most (links table.now) from) }
-    ensures stop { result.stop ≡ stop most (links table.now) from }
+    ensures places { result.places ≡ length (trace most (T.links table.now) from) }
+    ensures stop { result.stop ≡ stop most (T.links table.now) from }
 {
     let whole = follow(table, from, most);
     Walked {
@@ -72,7 +72,7 @@ pub fn walk<T: LinkTable>(table: &T, from: u32, most: u32) -> Walked
 
 // The link at a place, and FREE where there is none.
 pub(crate) fn link_or_free<T: LinkTable>(table: &T, place: u32) -> u32
-    ensures { result ≡ at (links table.now) place }
+    ensures { result ≡ at (T.links table.now) place }
 {
     match table.get(place) {
         Some(link) => link,
@@ -82,7 +82,7 @@ pub(crate) fn link_or_free<T: LinkTable>(table: &T, place: u32) -> u32
 
 // Whether a place of the table has this link.
 fn has_link<T: LinkTable>(table: &T, link: u32) -> bool
-    ensures { result ≡ holds link (links table.now) }
+    ensures { result ≡ holds link (T.links table.now) }
 {
     for place in 0..table.count() {
         if link_or_free(table, place) == link {
@@ -95,8 +95,8 @@ fn has_link<T: LinkTable>(table: &T, link: u32) -> bool
 // Goes along the chain of a head once: tells its units, and the place at a rank, or its last place where it is shorter.
 // Nothing where the place is no head.
 pub fn survey<T: LinkTable>(table: &T, head: u32, rank: u32) -> Option<Surveyed>
-    ensures told { result ≡ surveyed (chain_of (links table.now) head) rank }
-    ensures few { length (links table.now) ≤ 4096 }
+    ensures told { result ≡ surveyed (chain_of (T.links table.now) head) rank }
+    ensures few { length (T.links table.now) ≤ 4096 }
 {
     let count = table.count();
     let front = follow(table, head, rank.min(count));
@@ -115,8 +115,8 @@ pub fn survey<T: LinkTable>(table: &T, head: u32, rank: u32) -> Option<Surveyed>
 
 // How many units the chain of a head has; nothing where the place is no head.
 pub fn units<T: LinkTable>(table: &T, place: u32) -> Option<u32>
-    ensures told { result ≡ option_map length (chain_of (links table.now) place) }
-    ensures means { Units (at (links table.now)) place result }
+    ensures told { result ≡ option_map length (chain_of (T.links table.now) place) }
+    ensures means { Units (at (T.links table.now)) place result }
 {
     let whole = walk(table, place, table.count());
     if whole.places == 0 || whole.stop != END_OF_CHAIN || has_link(table, place) {
@@ -127,15 +127,15 @@ pub fn units<T: LinkTable>(table: &T, place: u32) -> Option<u32>
 
 // Whether a place is a head: no pointer points to it, and the pointers lead from it to END.
 pub fn is_head<T: LinkTable>(table: &T, place: u32) -> bool
-    ensures told { result ≡ is_some (chain_of (links table.now) place) }
-    ensures means { (result ≡ true) ↔ IsHead (at (links table.now)) place }
+    ensures told { result ≡ is_some (chain_of (T.links table.now) place) }
+    ensures means { (result ≡ true) ↔ IsHead (at (T.links table.now)) place }
 {
     units(table, place).is_some()
 }
 
 // Whether a place stands on the chain of a head. That is so exactly if the pointers lead from it to END.
 pub fn on_chain<T: LinkTable>(table: &T, place: u32) -> bool
-    ensures { (result ≡ true) ↔ OnChain (at (links table.now)) place }
+    ensures { (result ≡ true) ↔ OnChain (at (T.links table.now)) place }
 {
     let rest = walk(table, place, table.count());
     rest.places > 0 && rest.stop == END_OF_CHAIN
@@ -144,7 +144,7 @@ pub fn on_chain<T: LinkTable>(table: &T, place: u32) -> bool
 // The place at a rank, counted from 0, of those that a walk from a place meets; nothing past its end. At a head these
 // are the places of its chain.
 pub fn place_at<T: LinkTable>(table: &T, from: u32, rank: u32) -> Option<u32>
-    ensures { result ≡ slice_get (trace (length (links table.now)) (links table.now) from) rank }
+    ensures { result ≡ slice_get (trace (length (T.links table.now)) (T.links table.now) from) rank }
 {
     let count = table.count();
     if rank >= count {

@@ -1,6 +1,8 @@
 //! What a mini store asks of its host: the figures that say whether the host bears its table out, and how much room there
 //! is. Nothing of this is kept: it is asked for at every call.
 
+#![tactic(auto)]
+
 ghost use Rattle.mini.specs.Mini.{root_of, sectors_of, count_of, asked_of, fitting, ground_if};
 ghost use Rattle.rooms.specs.Meant.{meant};
 ghost use Rattle.std.specs.Option.{option_map};

@@ -3,6 +3,8 @@
 //! It keeps its table and whether it is open, and asks the host for all else at every call. Where the host does not bear the
 //! table out, a mini store means what a shut one means, so no call asks anything of its caller.
 
+#![tactic(auto)]
+
 ghost use Rattle.links.specs.Held.{links_of};
 ghost use Rattle.mini.specs.Mini.{ground_if};
 ghost use Rattle.minialloc.specs.Looks.{Looks};

@@ -1,6 +1,8 @@
 //! The table of a mini store, read from its host: the links of the MiniFAT, tested against the header words, the root
 //! entry and themselves. Nothing is changed.
 
+#![tactic(auto)]
+
 ghost use Rattle.links.specs.Check.{verdict};
 ghost use Rattle.links.specs.Held.{links_of};
 ghost use Rattle.links.specs.Stack.{free_places};

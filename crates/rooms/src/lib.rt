@@ -1,5 +1,7 @@
 //! How far the table of a mini store can grow over a host.
 
+#![tactic(auto)]
+
 ghost use Rattle.std.specs.Prelude.{◌≡◌, ◌+◌, ◌-◌};
 ghost use Rattle.rooms.specs.Meant.{meant};
 ghost use Rattle.rooms.specs.Rooms.{fits, growth, fats_needed, minis_needed, up};

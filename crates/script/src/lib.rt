@@ -1,5 +1,7 @@
 //! The words of a script: numbers, and the names of two links.
 
+#![tactic(auto)]
+
 ghost use Rattle.script.specs.Words.{worth, more, numeral, hexed, number_of, short_of, byte_of, hashed};
 ghost use Rattle.std.specs.Prelude.{◌≡◌, Some, fold};
 

@@ -3,8 +3,8 @@ use Rattle.std.proofs.Common.{sym, ◌∙◌, arith}
 use Rattle.mini.proofs.Figures.{ground_yes, ground_small}
 use Rattle.mini.proofs.ground.Goals as goal
 
-pub overflow-cast-result : goal.overflow-cast-result
-overflow-cast-result g c = omega (
+pub overflow_cast-result : goal.overflow_cast-result
+overflow_cast-result g c = omega (
   arith,
   ground_small _ _ (g.H.ChainStore.lawful c.args.host.now) c.ask-a.result _ _ c.args.links c.ask-a.ensures.told (sym c.in-Some-Some.is-0) (sym c.in-Some-Some.is-1)
       (sym c.if-not-fits.ensures),

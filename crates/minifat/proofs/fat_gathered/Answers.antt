@@ -4,18 +4,18 @@ use Rattle.store.specs.declared.faults.Refusal.TheVariants.{BadMinifat}
 use Rattle.minifat.proofs.Fats.{blocks_few, fat_read}
 use Rattle.minifat.proofs.fat_gathered.Goals as goal
 
-pub overflow-mul-blocks : goal.overflow-mul-blocks
-overflow-mul-blocks g c =
+pub overflow_mul-blocks : goal.overflow_mul-blocks
+overflow_mul-blocks g c =
     omega (
       arith,
-      blocks_few _ _ (g.H.ChainStore.lawful c.args.host.now) _ _ c.in-ok-words.ensures.told
-          _ (c.sector-blocks.ensures.told ∙ ap (λ m. m.unit) c.fat-words.ensures.left),
+      blocks_few _ _ (g.H.ChainStore.lawful c.args.host.now) _ _ c.in_ok-words.ensures.told
+          _ (c.sector_blocks.ensures.told ∙ ap (λ m. m.unit) c.fat_words.ensures.left),
     )
 
 pub returns : goal.returns
 returns g c = record {
-  told = rw c.carry.ensures (fat_read _ _ (g.H.ChainStore.lawful c.args.host.now) _ _ c.in-ok-words.ensures.told
-      _ (c.sector-blocks.ensures.told ∙ ap (λ m. m.unit) c.fat-words.ensures.left)
-      BadMinifat _ _ (c.sector-blocks.ensures.left ∙ c.fat-words.ensures.left) c.gather-read.ensures.told);
-  left = c.gather-read.ensures.left ∙ c.sector-blocks.ensures.left ∙ c.fat-words.ensures.left;
+  told = rw c.carry.ensures (fat_read _ _ (g.H.ChainStore.lawful c.args.host.now) _ _ c.in_ok-words.ensures.told
+      _ (c.sector_blocks.ensures.told ∙ ap (λ m. m.unit) c.fat_words.ensures.left)
+      BadMinifat _ _ (c.sector_blocks.ensures.left ∙ c.fat_words.ensures.left) c.gather-read.ensures.told);
+  left = c.gather-read.ensures.left ∙ c.sector_blocks.ensures.left ∙ c.fat_words.ensures.left;
 }

@@ -30,5 +30,5 @@ returns-in-None c =
 pub returns : goal.returns
 returns c =
     let text = c.args.text.now in
-    let some : 0 < length text = omega (arith, eqb-false _ 0 (sym c.if-is-empty.ensures)) in
+    let some : 0 < length text = omega (arith, eqb-false _ 0 (sym c.if-is_empty.ensures)) in
     sym (at_drop_all (along c.args.base (Some c.loop-byte.number)) text c.loop-byte.byte-index (omega arith)) ∙ c.loop-byte.invariant ∙ numeral_some c.args.base text some

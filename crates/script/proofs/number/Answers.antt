@@ -15,12 +15,12 @@ module _ (w t : List ℕ) (same : t ≡ w) (d e : Bool) (end : Decides d (w ≡ 
   dec : false ≡ hexed t → o ≡ numeral 10 t → o ≡ number_of w
   dec h i = rw (not_same w _ d end no_end, not_same w _ e free no-free, sym (rw same at h)) (rw same at i)
 
-pub returns-then-is-hex : goal.returns-then-is-hex
-returns-then-is-hex c =
-    hex _ _ c.as-bytes-text.ensures.value _ _ c.eq.ensures c.if-eq.false c.eq-2.ensures c.if-eq-2.false _
-    c.if-is-hex.ensures c.digits.ensures
+pub returns-then-is_hex : goal.returns-then-is_hex
+returns-then-is_hex c =
+    hex _ _ c.as_bytes-text.ensures.value _ _ c.eq.ensures c.if-eq.false c.eq-2.ensures c.if-eq-2.false _
+    c.if-is_hex.ensures c.digits.ensures
 
 pub returns : goal.returns
 returns c =
-    dec _ _ c.as-bytes-text.ensures.value _ _ c.eq.ensures c.if-eq.false c.eq-2.ensures c.if-eq-2.false _
-    c.if-is-hex.ensures c.digits-2.ensures
+    dec _ _ c.as_bytes-text.ensures.value _ _ c.eq.ensures c.if-eq.false c.eq-2.ensures c.if-eq-2.false _
+    c.if-is_hex.ensures c.digits-2.ensures

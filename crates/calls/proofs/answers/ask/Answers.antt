@@ -61,7 +61,7 @@ returns-in-Write g c =
     let m = g.S.ChainStore.meaning c.args.store.now in
     let layer = g.S.ChainStore.layer in
     let k = c.in-Write in
-    let same = c.as-slice.ensures.value in
+    let same = c.as_slice.ensures.value in
     record {
       answered = rw k.is (
         c.ended-in-Write.ensures ∙ ap (replied finished) c.write.ensures.told

@@ -75,10 +75,10 @@ pub returns-in-Ok : goal.returns-in-Ok
 returns-in-Ok g c =
     record {
       told = gives g.S.ChainStore.most (g.S.ChainStore.meaning c.args.store.now) (g.S.ChainStore.lawful c.args.store.now)
-          g.S.ChainStore.layer c.args.head c.args.at c.args.count c.as-mut-slice.result.now
-          (omega (arith, c.in-ok-out.ensures.len, c.min.ensures, c.as-mut-slice.ensures.len)) _ _ _
+          g.S.ChainStore.layer c.args.head c.args.at c.args.count c.as_mut_slice.result.now
+          (omega (arith, c.in_ok-out.ensures.len, c.min.ensures, c.as_mut_slice.ensures.len)) _ _ _
           c.in-Ok.ensures.told c.in-Ok.ensures.out
-          (omega (arith, c.as-mut-slice.ensures.len));
+          (omega (arith, c.as_mut_slice.ensures.len));
       left = c.read.ensures.left;
       sound = c.read.ensures.sound;
     }
@@ -87,8 +87,8 @@ pub returns-in-Err : goal.returns-in-Err
 returns-in-Err g c =
     record {
       told = refuses g.S.ChainStore.most (g.S.ChainStore.meaning c.args.store.now) (g.S.ChainStore.lawful c.args.store.now)
-          g.S.ChainStore.layer c.args.head c.args.at c.args.count c.as-mut-slice.result.now
-          (omega (arith, c.in-ok-out.ensures.len, c.min.ensures, c.as-mut-slice.ensures.len)) _ c.in-Err.ensures.told;
+          g.S.ChainStore.layer c.args.head c.args.at c.args.count c.as_mut_slice.result.now
+          (omega (arith, c.in_ok-out.ensures.len, c.min.ensures, c.as_mut_slice.ensures.len)) _ c.in-Err.ensures.told;
       left = c.read.ensures.left;
       sound = c.read.ensures.sound;
     }

@@ -51,17 +51,17 @@ pub returns-in-empty : goal.returns-in-empty
 returns-in-empty c = sym (at0 c.args.words.now (omega (arith, eqb-true, ltb-true, ltb-false)))
 
 pub returns-in-len1 : goal.returns-in-len1
-returns-in-len1 c = c.name-line.ensures ∙ sym (at1 c.args.words.now _ (omega (arith, eqb-true, ltb-true, ltb-false)))
+returns-in-len1 c = c.name_line.ensures ∙ sym (at1 c.args.words.now _ (omega (arith, eqb-true, ltb-true, ltb-false)))
 
 pub returns-in-len2 : goal.returns-in-len2
-returns-in-len2 c = c.one-line.ensures ∙ sym (at2 c.args.words.now _ _ (omega (arith, eqb-true, ltb-true, ltb-false)))
+returns-in-len2 c = c.one_line.ensures ∙ sym (at2 c.args.words.now _ _ (omega (arith, eqb-true, ltb-true, ltb-false)))
 
 pub returns-in-len3 : goal.returns-in-len3
-returns-in-len3 c = c.two-line.ensures ∙ sym (at3 c.args.words.now _ _ _ (omega (arith, eqb-true, ltb-true, ltb-false)))
+returns-in-len3 c = c.two_line.ensures ∙ sym (at3 c.args.words.now _ _ _ (omega (arith, eqb-true, ltb-true, ltb-false)))
 
 pub returns-in-len4 : goal.returns-in-len4
 returns-in-len4 c =
-    IfOk-weaker c.three-line.result _ _ (λ l e. e ∙ sym (at4 c.args.words.now _ _ _ _ (omega (arith, eqb-true, ltb-true, ltb-false)))) c.three-line.ensures
+    IfOk-weaker c.three_line.result _ _ (λ l e. e ∙ sym (at4 c.args.words.now _ _ _ _ (omega (arith, eqb-true, ltb-true, ltb-false)))) c.three_line.ensures
 
-pub returns-in-default : goal.returns-in-default
-returns-in-default c = sym (more c.args.words.now (omega (arith, eqb-true, ltb-true, ltb-false)))
+pub returns-in_default : goal.returns-in_default
+returns-in_default c = sym (more c.args.words.now (omega (arith, eqb-true, ltb-true, ltb-false)))

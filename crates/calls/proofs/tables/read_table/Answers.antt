@@ -28,23 +28,23 @@ module _ (i : ℕ) (ls : List (Bor (List ℕ))) (L : List ℕ) (all : Result (Li
 whole : (text : List ℕ) (ls vs : List (Bor (List ℕ))) → ls ≡ vs → map (λ x. x.now) vs ≡ lines_of text → lines_into 1 (map (λ x. x.now) ls) [] ≡ table_of text
 whole text ls vs s e = ap (λ ks. lines_into 1 (map (λ x. x.now) ks) []) s ∙ ap (λ ks. lines_into 1 ks []) e
 
-pub returns-in-err-table : goal.returns-in-err-table
-returns-in-err-table c =
-    let ls = c.as-slice-line-items.result.now in
-    let p = err_from_is_err_and c.from-residual-in-err-table.result c.from-residual-in-err-table.ensures.1 in
+pub returns-in_err-table : goal.returns-in_err-table
+returns-in_err-table c =
+    let ls = c.as_slice-line-items.result.now in
+    let p = err_from_is_err_and c.from_residual-in_err-table.result c.from_residual-in_err-table.ensures.1 in
     rw (p.1, p.2)
     (stops c.loop-i.i ls (links_of c.loop-i.table) _
-    (c.loop-i.invariant ∙ whole c.args.text.now ls _ c.as-slice-line-items.ensures.value c.in-ok-lines.ensures) _ (omega arith)
-    (map (λ x. x.now) c.as-slice.result.now) (ap (map (λ x. x.now)) c.as-slice.ensures.value ∙ c.in-ok-words.ensures) _ c.in-err-table.ensures)
+    (c.loop-i.invariant ∙ whole c.args.text.now ls _ c.as_slice-line-items.ensures.value c.in_ok-lines.ensures) _ (omega arith)
+    (map (λ x. x.now) c.as_slice.result.now) (ap (map (λ x. x.now)) c.as_slice.ensures.value ∙ c.in_ok-words.ensures) _ c.in_err-table.ensures)
 
 pub loop-i-preserved : goal.loop-i-preserved
 loop-i-preserved c =
-    goes c.loop-i.i c.as-slice-line-items.result.now (links_of c.loop-i.table) _ c.loop-i.invariant _ (omega arith)
-    (map (λ x. x.now) c.as-slice.result.now) (ap (map (λ x. x.now)) c.as-slice.ensures.value ∙ c.in-ok-words.ensures)
-    (links_of c.in-ok-table.table) c.in-ok-table.ensures
+    goes c.loop-i.i c.as_slice-line-items.result.now (links_of c.loop-i.table) _ c.loop-i.invariant _ (omega arith)
+    (map (λ x. x.now) c.as_slice.result.now) (ap (map (λ x. x.now)) c.as_slice.ensures.value ∙ c.in_ok-words.ensures)
+    (links_of c.in_ok-table.table) c.in_ok-table.ensures
 
 pub returns : goal.returns
 returns c =
-    let ls = c.as-slice-line-items.result.now in
-    sym (whole c.args.text.now ls _ c.as-slice-line-items.ensures.value c.in-ok-lines.ensures) ∙ sym c.loop-i.invariant
+    let ls = c.as_slice-line-items.result.now in
+    sym (whole c.args.text.now ls _ c.as_slice-line-items.ensures.value c.in_ok-lines.ensures) ∙ sym c.loop-i.invariant
     ∙ at_drop_all (λ ks. lines_into (c.loop-i.i + 1) (map (λ x. x.now) ks) (links_of c.loop-i.table)) ls c.loop-i.i (omega arith)

@@ -26,11 +26,11 @@ module _ (n i : ℕ) (ws : List (Bor (List ℕ))) (L : List ℕ) (all : Result (
 pub returns-in-Err : goal.returns-in-Err
 returns-in-Err c =
     stops c.args.line c.loop-word.word-index c.args.words.now (links_of c.loop-word.table) _ c.loop-word.invariant _ c.in-Err.fault _
-    (omega arith) c.in-Err.ensures.0 c.in-ok-from-str.ensures.ok
+    (omega arith) c.in-Err.ensures.0 c.in_ok-from_str.ensures.ok
 
 pub loop-word-preserved : goal.loop-word-preserved
 loop-word-preserved c =
-    goes c.args.line c.loop-word.word-index c.args.words.now (links_of c.loop-word.table) _ c.loop-word.invariant _ _ (omega arith) c.in-default.ensures
+    goes c.args.line c.loop-word.word-index c.args.words.now (links_of c.loop-word.table) _ c.loop-word.invariant _ _ (omega arith) c.in_default.ensures
 
 pub returns : goal.returns
 returns c =

@@ -18,14 +18,14 @@ returns-then-unit-ge-UNITS c =
       left = λ n. refl;
     }
 
-pub invariant-of-self : goal.invariant-of-self
-invariant-of-self c =
+pub invariant_of-self : goal.invariant_of-self
+invariant_of-self c =
     let s = c.args.self.now in
-    joined_kept s.heads s.ranks s.bytes c.args.unit c.args.head c.units-rank.result c.copy-from-slice.new.self (search (rules, sound_of))
+    joined_kept s.heads s.ranks s.bytes c.args.unit c.args.head c.units-rank.result c.copy_from_slice.new.self (search (rules, sound_of))
 
 pub returns : goal.returns
 returns c =
     let s = c.args.self.now in
-    let j : Joining s.heads s.ranks s.bytes c.args.unit c.args.head c.units-rank.result c.copy-from-slice.new.self =
+    let j : Joining s.heads s.ranks s.bytes c.args.unit c.args.head c.units-rank.result c.copy_from_slice.new.self =
     search (rules, sound_of) in
     record { told = joined-told _ _ _ _ _ _ _ j; left = joined-stored _ _ _ _ _ _ _ j }

@@ -5,8 +5,8 @@ use Rattle.cells.proofs.Paths.{fresh_unique, fresh_down, fresh_named}
 use Rattle.cells.proofs.Stores.{fresh_chain}
 use Rattle.cells.proofs.Cells.new.Goals as goal
 
-pub invariant-of-result : goal.invariant-of-result
-invariant-of-result c = (refl, (refl, (length-replicate {A = ℕ} 32768 0, (fresh_unique (replicate 64 0), (fresh_down (replicate 64 0), (fresh_named (replicate 64 0), tt))))))
+pub invariant_of-result : goal.invariant_of-result
+invariant_of-result c = (refl, (refl, (length-replicate {A = ℕ} 32768 0, (fresh_unique (replicate 64 0), (fresh_down (replicate 64 0), (fresh_named (replicate 64 0), tt))))))
 
 pub returns : goal.returns
 returns c = ((λ n h. fresh_chain _ _ h), (λ n. refl))

@@ -5,8 +5,8 @@ use Rattle.cells.proofs.Paths.{sound_of}
 use Rattle.cells.proofs.Stores.{bytes_content}
 use Rattle.cells.proofs.Cells.read.Goals as goal
 
-pub read-chain-requires : goal.read-chain-requires
-read-chain-requires c =
+pub read_chain-requires : goal.read_chain-requires
+read_chain-requires c =
     let s = c.args.self.now in
     let w = within-content s c.args.head _ (c.if-not-holds.ensures no_notes) in
     record { sound = cells_whole s; whole = w; fits = omega (arith, content_small s c.args.head) }
@@ -16,7 +16,7 @@ returns c =
     let s = c.args.self.now in
     record {
       told = c.if-not-holds.ensures;
-      out = λ n. c.read-chain.ensures.read
+      out = λ n. c.read_chain.ensures.read
           ∙ ap (λ xs. take (length c.args.out.now) (drop c.args.at xs)) (sym (bytes_content s.heads s.ranks (sound_of s) s.bytes s.filled n c.args.head));
-      left = same_units s c.read-chain.new.s c.read-chain.ensures.same;
+      left = same_units s c.read_chain.new.s c.read_chain.ensures.same;
     }

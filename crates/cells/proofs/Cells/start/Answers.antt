@@ -2,8 +2,8 @@
 use Rattle.cells.proofs.Gives.{start_none, start_some}
 use Rattle.cells.proofs.Cells.start.Goals as goal
 
-pub returns-in-err-unit : goal.returns-in-err-unit
-returns-in-err-unit c = rw c.from-residual.ensures (λ n. start_none c.args.self.now n c.in-err-unit.ensures)
+pub returns-in_err-unit : goal.returns-in_err-unit
+returns-in_err-unit c = rw c.from_residual.ensures (λ n. start_none c.args.self.now n c.in_err-unit.ensures)
 
 pub returns : goal.returns
-returns c n = start_some c.args.self.now n c.in-ok-unit.unit _ _ c.in-ok-unit.ensures c.join.ensures.told (c.join.ensures.left n)
+returns c n = start_some c.args.self.now n c.in_ok-unit.unit _ _ c.in_ok-unit.ensures c.join.ensures.told (c.join.ensures.left n)

@@ -8,8 +8,8 @@ returns-then-count-eq0 c =
     let t = λ (n : Notes). part_absent c.args.self.now n c.args.head _ c.units-count.ensures c.if-count-eq0.true in
     record { told = λ n. (t n).0; left = λ n. (t n).1 }
 
-pub invariant-of-self : goal.invariant-of-self
-invariant-of-self c = part_kept c.args.self.now c.args.head _ c.units-count.ensures c.if-count-eq0.false c.in-Some.unit c.in-Some.ensures
+pub invariant_of-self : goal.invariant_of-self
+invariant_of-self c = part_kept c.args.self.now c.args.head _ c.units-count.ensures c.if-count-eq0.false c.in-Some.unit c.in-Some.ensures
 
 pub returns-in-Some : goal.returns-in-Some
 returns-in-Some c =

@@ -10,13 +10,13 @@ loop-init g c = (
   releasing_start _ _ _ _ _ (path_head _ (g.S.Linked.woven _ c.requires.sound) _ (omega (arith, c.requires.some, c.requires.units))) c.requires.units,
 )
 
-pub give-back-place-requires : goal.give-back-place-requires
-give-back-place-requires g c = let r = releasing_at _ _ _ _ _ (path_head _ (g.S.Linked.woven _ c.requires.sound) _ (omega (arith, c.requires.some, c.requires.units))) c.requires.units _ _ _ c.loop.invariant.2 c.loop-test.true in
+pub give_back-place-requires : goal.give_back-place-requires
+give_back-place-requires g c = let r = releasing_at _ _ _ _ _ (path_head _ (g.S.Linked.woven _ c.requires.sound) _ (omega (arith, c.requires.some, c.requires.units))) c.requires.units _ _ _ c.loop.invariant.2 c.loop-test.true in
     record { sound = c.loop.invariant.0; live = r.0; first = r.1 }
 
 pub loop-preserved : goal.loop-preserved
 loop-preserved g c =
-    let told = c.give-back-place.ensures in (
+    let told = c.give_back-place.ensures in (
       told.sound,
       λ k. told.keeps (c.loop.invariant.1 k),
       releasing_more _ _ _ _ _ (path_head _ (g.S.Linked.woven _ c.requires.sound) _ (omega (arith, c.requires.some, c.requires.units))) c.requires.units _ _ _ c.loop.invariant.2

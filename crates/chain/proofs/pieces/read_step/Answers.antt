@@ -4,8 +4,8 @@ use Rattle.chain.proofs.Laid.{read_more}
 use Rattle.chain.proofs.Views.{place_in, slice_here}
 use Rattle.chain.proofs.pieces.read_step.Goals as goal
 
-pub read-unit-requires : goal.read-unit-requires
-read-unit-requires g c =
+pub read_unit-requires : goal.read_unit-requires
+read_unit-requires g c =
     record {
       sound = c.requires.sound;
       unit = place_in _ (g.S.Units.whole c.args.s.now c.requires.sound) _ _ c.args.c c.requires.on (omega arith);
@@ -20,10 +20,10 @@ returns g c =
     let n : length (take (d + k - d) (drop d xs)) ≡ k = simp (length-take, length-drop) (omega arith) in
     let s = slice_here _ (g.S.Units.whole c.args.s.now c.requires.sound) _ _ c.args.c c.requires.on (omega arith) k (omega arith) in
     record {
-      sound = c.read-unit.ensures.sound;
-      same = c.read-unit.ensures.same;
+      sound = c.read_unit.ensures.sound;
+      same = c.read_unit.ensures.same;
       on = search rules;
       less = search rules;
       done = search rules;
-      read = read_more xs c.read-unit.new.out _ c.args.c.at d k c.requires.read (c.read-unit.ensures.read ∙ rw n (sym s)) (search rules) (omega arith);
+      read = read_more xs c.read_unit.new.out _ c.args.c.at d k c.requires.read (c.read_unit.ensures.read ∙ rw n (sym s)) (search rules) (omega arith);
     }

@@ -8,8 +8,8 @@ use Rattle.std.proofs.lemmas.List.{length-take-le, take_all}
 pub loop-c-init : goal.loop-c-init
 loop-c-init g c = (on_start _ (g.S.Units.whole c.args.s.now c.requires.sound) _ _, omega arith, wrote_none _ _ _, c.requires.sound)
 
-pub write-step-c-requires : goal.write-step-c-requires
-write-step-c-requires g c =
+pub write_step-c-requires : goal.write_step-c-requires
+write_step-c-requires g c =
     let o = c.loop-c.invariant.2 in
     let on = c.loop-c.invariant.0 in
     let n : length (take c.loop-c.c.done c.args.src.now) ≡ c.loop-c.c.done = length-take-le _ _ (omega arith) in
@@ -19,8 +19,8 @@ write-step-c-requires g c =
 pub loop-c-preserved : goal.loop-c-preserved
 loop-c-preserved g c =
     let on = c.loop-c.invariant.0 in
-    let e = rw (on.head, on.start) at c.write-step-c.ensures in
-    (e.on, omega arith, wrote_turn _ _ _ _ _ _ _ c.args.src.now c.requires.whole (omega arith) (omega arith) c.loop-c.invariant.2 e.wrote, c.write-step-c.ensures.sound)
+    let e = rw (on.head, on.start) at c.write_step-c.ensures in
+    (e.on, omega arith, wrote_turn _ _ _ _ _ _ _ c.args.src.now c.requires.whole (omega arith) (omega arith) c.loop-c.invariant.2 e.wrote, c.write_step-c.ensures.sound)
 
 pub returns : goal.returns
 returns g c =

@@ -10,8 +10,8 @@ returns-then-c-unit g c =
     let same = c.forward.ensures.same in
     record { sound = c.forward.ensures.sound; on = rw same c.forward.ensures.on; less = search rules; done = search rules; wrote = rw (same, z) (wrote_none _ _ _) }
 
-pub write-unit-requires : goal.write-unit-requires
-write-unit-requires g c =
+pub write_unit-requires : goal.write_unit-requires
+write_unit-requires g c =
     record {
       sound = c.requires.sound;
       unit = place_in _ (g.S.Units.whole c.args.s.now c.requires.sound) _ _ c.args.c c.requires.on (omega arith);
@@ -24,6 +24,6 @@ returns g c =
     let d = c.args.c.done in
     let ys = take (d + c.min-k.result - d) (drop d c.args.src.now) in
     let n : c.args.c.off + length ys ≤ v.unit = simp (length-take, length-drop) (omega arith) in
-    let o : Wrote v (g.S.Units.view c.write-unit.new.self) c.args.c.head (c.args.c.at + d) ys =
-    rw c.write-unit.ensures.put (wrote_here v (g.S.Units.whole c.args.s.now c.requires.sound) _ _ c.args.c c.requires.on (omega arith) ys n) in
-    record { sound = c.write-unit.ensures.sound; on = on_moved _ _ _ _ _ c.min-k.result _ c.args.c o c.requires.on; less = search rules; done = search rules; wrote = o }
+    let o : Wrote v (g.S.Units.view c.write_unit.new.self) c.args.c.head (c.args.c.at + d) ys =
+    rw c.write_unit.ensures.put (wrote_here v (g.S.Units.whole c.args.s.now c.requires.sound) _ _ c.args.c c.requires.on (omega arith) ys n) in
+    record { sound = c.write_unit.ensures.sound; on = on_moved _ _ _ _ _ c.min-k.result _ c.args.c o c.requires.on; less = search rules; done = search rules; wrote = o }

@@ -5,7 +5,7 @@ use Rattle.drawer.proofs.Times.{times_more, times_all}
 use Rattle.drawer.proofs.Drawer.shrink.Goals as goal
 
 pub loop-preserved : goal.loop-preserved
-loop-preserved c = times_more c.loop.counter _ _ _ _ c.loop.invariant (c.take-back.ensures.left (noted c.loop.self))
+loop-preserved c = times_more c.loop.counter _ _ _ _ c.loop.invariant (c.take_back.ensures.left (noted c.loop.self))
 
 pub returns : goal.returns
 returns c = times_all c.loop.counter c.args.count _ _ _ (omega arith) (omega arith) c.loop.invariant

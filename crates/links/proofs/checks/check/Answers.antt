@@ -14,37 +14,37 @@ all L r h = let e = lowest_verdict L r h in (e, h, rw e (decides L))
 pub loop-place-init : goal.loop-place-init
 loop-place-init g c = looked_none _
 
-pub loop-place-preserved-then-link-gt-MAX-REGULAR-SECTOR : goal.loop-place-preserved-then-link-gt-MAX-REGULAR-SECTOR
-loop-place-preserved-then-link-gt-MAX-REGULAR-SECTOR g c =
+pub loop-place-preserved-then-link-gt-MAX_REGULAR_SECTOR : goal.loop-place-preserved-then-link-gt-MAX_REGULAR_SECTOR
+loop-place-preserved-then-link-gt-MAX_REGULAR_SECTOR g c =
     looked_skip _ c.loop-place.place _ (omega arith) c.loop-place.invariant (omega arith)
 
-pub returns-then-link-or-free : goal.returns-then-link-or-free
-returns-then-link-or-free g c =
+pub returns-then-link_or_free : goal.returns-then-link_or_free
+returns-then-link_or_free g c =
     let L = g.T.LinkTable.links c.args.table.now in
     let p = c.loop-place.place in
-    let e = fault_dangling L p _ _ c.link-or-free-link.ensures (omega arith) c.link-or-free.ensures c.if-link-or-free.true in
+    let e = fault_dangling L p _ _ c.link_or_free-link.ensures (omega arith) c.link_or_free.ensures c.if-link_or_free.true in
     let r = all L (Err (Dangling p)) (refused L p _ (Dangling p) c.loop-place.invariant (omega arith) refl e) in
     record { told = r.0; lowest = r.1; decides = r.2 }
 
 pub bounds-met-link : goal.bounds-met-link
 bounds-met-link g c =
-    marked (g.T.LinkTable.links c.args.table.now) c.loop-place.place c.link-or-free-link.result c.link-or-free.result c.loop-place.met (search rules)
+    marked (g.T.LinkTable.links c.args.table.now) c.loop-place.place c.link_or_free-link.result c.link_or_free.result c.loop-place.met (search rules)
 
 pub returns-then-met-link : goal.returns-then-met-link
 returns-then-met-link g c =
     let L = g.T.LinkTable.links c.args.table.now in
     let p = c.loop-place.place in
-    let e = fault_shared L p c.link-or-free-link.result c.link-or-free.result c.loop-place.met (search rules) c.if-met-link.true in
+    let e = fault_shared L p c.link_or_free-link.result c.link_or_free.result c.loop-place.met (search rules) c.if-met-link.true in
     let r = all L (Err (Shared p)) (refused L p _ (Shared p) c.loop-place.invariant (omega arith) refl e) in
     record { told = r.0; lowest = r.1; decides = r.2 }
 
 pub bounds-met-link-in-loop-place : goal.bounds-met-link-in-loop-place
 bounds-met-link-in-loop-place g c =
-    marked (g.T.LinkTable.links c.args.table.now) c.loop-place.place c.link-or-free-link.result c.link-or-free.result c.loop-place.met (search rules)
+    marked (g.T.LinkTable.links c.args.table.now) c.loop-place.place c.link_or_free-link.result c.link_or_free.result c.loop-place.met (search rules)
 
 pub loop-place-preserved : goal.loop-place-preserved
 loop-place-preserved g c =
-    looked_mark (g.T.LinkTable.links c.args.table.now) c.loop-place.place c.link-or-free-link.result c.link-or-free.result c.loop-place.met
+    looked_mark (g.T.LinkTable.links c.args.table.now) c.loop-place.place c.link_or_free-link.result c.link_or_free.result c.loop-place.met
     (search rules) c.if-met-link.false
 
 pub returns : goal.returns

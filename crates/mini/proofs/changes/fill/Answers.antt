@@ -14,8 +14,8 @@ loop-rank-init g c =
       omega (arith, u.told, (g.H.ChainStore.lawful c.args.host.now).small),
     )
 
-pub overflow-mul-at : goal.overflow-mul-at
-overflow-mul-at g c = omega (
+pub overflow_mul-at : goal.overflow_mul-at
+overflow_mul-at g c = omega (
   arith,
   mul-le-mul {n₁ = c.from.result + c.from-in-loop-rank.result} {m₁ = c.from-in-loop-rank-2.result} {n₂ = 8589934592} {m₂ = 4096} (omega arith) (omega (arith, c.loop-rank.invariant.2)),
 )

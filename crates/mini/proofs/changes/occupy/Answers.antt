@@ -12,7 +12,7 @@ returns g c =
     let m = means c.args.host.now in
     let p = c.args.place in
     let ready : means c.if-fresh.host ≡ cond c.args.fresh (longer_root m layer) m = elim c.if-fresh.branch [
-      | then-fresh w ↦ ap means w.host-is ∙ w.lengthen-root.ensures ∙ sym (ap (λ b. cond b (longer_root m layer) m) w.if-fresh.true)
+      | then-fresh w ↦ ap means w.host-is ∙ w.lengthen_root.ensures ∙ sym (ap (λ b. cond b (longer_root m layer) m) w.if-fresh.true)
       | else-fresh w ↦ ap means w.host-is ∙ sym (ap (λ b. cond b (longer_root m layer) m) w.if-fresh.false)
     ] in
-    c.wipe.ensures ∙ ap (λ s. wiped_at s layer p) c.write-link.ensures ∙ ap (λ s. wiped_at (link_wrote s layer p END) layer p) ready
+    c.wipe.ensures ∙ ap (λ s. wiped_at s layer p) c.write_link.ensures ∙ ap (λ s. wiped_at (link_wrote s layer p END) layer p) ready

@@ -7,8 +7,8 @@ pub returns : goal.returns
 returns g c =
     let means = g.H.ChainStore.meaning in
     let layer = g.H.ChainStore.layer in (
-      means c.add-fats.new.host,
-      g.H.ChainStore.lawful c.add-fats.new.host,
-      subst (λ n. AddsFats (means c.args.host.now) layer (n % 0x100000000) (means c.add-fats.new.host)) c.need-fats.ensures c.add-fats.ensures,
-      subst (λ n. AddsMinis (means c.add-fats.new.host) layer (n % 0x100000000) (means c.add-minis.new.host)) c.need-minis.ensures c.add-minis.ensures,
+      means c.add_fats.new.host,
+      g.H.ChainStore.lawful c.add_fats.new.host,
+      subst (λ n. AddsFats (means c.args.host.now) layer (n % 0x100000000) (means c.add_fats.new.host)) c.need_fats.ensures c.add_fats.ensures,
+      subst (λ n. AddsMinis (means c.add_fats.new.host) layer (n % 0x100000000) (means c.add_minis.new.host)) c.need_minis.ensures c.add_minis.ensures,
     )

@@ -13,8 +13,8 @@ use Rattle.minialloc.proofs.Growing.{prepares, sound_ready, enough, roomy, synce
 use Rattle.minialloc.proofs.Refusals.{state_same}
 use Rattle.minialloc.proofs.MiniStore.begin_mini_chain.Goals as goal
 
-pub overflow-add-free : goal.overflow-add-free
-overflow-add-free g c = omega (arith, c.free-free.ensures.told, few_of c.args.self.now.table.stack, c.growth.ensures, growth-within (meant c.in-Some.ground))
+pub overflow_add-free : goal.overflow_add-free
+overflow_add-free g c = omega (arith, c.free-free.ensures.told, few_of c.args.self.now.table.stack, c.growth.ensures, growth-within (meant c.in-Some.ground))
 
 pub returns-then-count-free : goal.returns-then-count-free
 returns-then-count-free g c =
@@ -59,10 +59,10 @@ begin-requires g c =
     let f = c.free-free.result in
     let l : n ≤ f + growth (meant ground) = omega (arith, c.if-count-free.false, c.growth.ensures) in
     record {
-      sound = sound_ready _ layer self.open m s v L S few kept ok same (meant ground) st hosted n f c.saturating-sub.result c.free-free.ensures.told l c.saturating-sub.ensures c.reserve.ensures;
+      sound = sound_ready _ layer self.open m s v L S few kept ok same (meant ground) st hosted n f c.saturating_sub.result c.free-free.ensures.told l c.saturating_sub.ensures c.reserve.ensures;
       some = omega (arith, c.if-count-eq0.false);
-      ready = enough _ layer self.open m s v L S few kept ok same (meant ground) st hosted n f c.saturating-sub.result c.free-free.ensures.told l c.saturating-sub.ensures c.reserve.ensures;
-      room = roomy _ layer self.open m s v L S few kept ok same (meant ground) st hosted n f c.saturating-sub.result c.free-free.ensures.told l c.saturating-sub.ensures c.reserve.ensures;
+      ready = enough _ layer self.open m s v L S few kept ok same (meant ground) st hosted n f c.saturating_sub.result c.free-free.ensures.told l c.saturating_sub.ensures c.reserve.ensures;
+      room = roomy _ layer self.open m s v L S few kept ok same (meant ground) st hosted n f c.saturating_sub.result c.free-free.ensures.told l c.saturating_sub.ensures c.reserve.ensures;
     }
 
 pub returns : goal.returns
@@ -92,8 +92,8 @@ returns g c =
     let M = links_of after.table.links in
     let T = links_of after.table.stack in
     record {
-      begins = begun_yes _ layer self.open m s v L S few kept ok same (meant ground) st hosted n f c.saturating-sub.result c.free-free.ensures.told l c.saturating-sub.ensures c.reserve.ensures
+      begins = begun_yes _ layer self.open m s v L S few kept ok same (meant ground) st hosted n f c.saturating_sub.result c.free-free.ensures.told l c.saturating_sub.ensures c.reserve.ensures
           u M T after.open oku h.0 h.2 (few_of after.table.links) (kept_of after.table) c.begin.result c.if-count-eq0.false new.0 new.1 c.begin.ensures.means;
-      taken = (v, prepares _ layer self.open m s v L S few kept ok same (meant ground) st hosted n f c.saturating-sub.result c.free-free.ensures.told l c.saturating-sub.ensures c.reserve.ensures, c.begin.ensures.told, h.0 ∙ sym st.opened, c.begin.ensures.left);
-      sound = λ y. c.begin.ensures.keeps (synced_ready _ layer self.open m s v L S few kept ok same (meant ground) st hosted n f c.saturating-sub.result c.free-free.ensures.told l c.saturating-sub.ensures c.reserve.ensures y);
+      taken = (v, prepares _ layer self.open m s v L S few kept ok same (meant ground) st hosted n f c.saturating_sub.result c.free-free.ensures.told l c.saturating_sub.ensures c.reserve.ensures, c.begin.ensures.told, h.0 ∙ sym st.opened, c.begin.ensures.left);
+      sound = λ y. c.begin.ensures.keeps (synced_ready _ layer self.open m s v L S few kept ok same (meant ground) st hosted n f c.saturating_sub.result c.free-free.ensures.told l c.saturating_sub.ensures c.reserve.ensures y);
     }

@@ -18,11 +18,11 @@ use Rattle.minialloc.proofs.Growing.{prepares, sound_ready, enough, roomy, synce
 use Rattle.minialloc.proofs.Refusals.{not_head, not_head_left, broke_by, state_same}
 use Rattle.minialloc.proofs.MiniStore.extend_mini_chain.Goals as goal
 
-pub overflow-add-free : goal.overflow-add-free
-overflow-add-free g c = omega (arith, c.free-free.ensures.told, few_of c.args.self.now.table.stack, c.growth.ensures, growth-within (meant c.in-ok-found.found.ground))
+pub overflow_add-free : goal.overflow_add-free
+overflow_add-free g c = omega (arith, c.free-free.ensures.told, few_of c.args.self.now.table.stack, c.growth.ensures, growth-within (meant c.in_ok-found.found.ground))
 
-pub returns-in-err-found : goal.returns-in-err-found
-returns-in-err-found g c =
+pub returns-in_err-found : goal.returns-in_err-found
+returns-in_err-found g c =
     let self = c.args.self.now in
     let m = g.H.ChainStore.meaning self.host in
     let ok = g.H.ChainStore.lawful self.host in
@@ -31,17 +31,17 @@ returns-in-err-found g c =
     let S = links_of self.table.stack in
     let few = few_of self.table.links in
     let kept = kept_of self.table in
-    let f = c.in-err-found.ensures.told in
+    let f = c.in_err-found.ensures.told in
     let same = c.look.ensures.left in
     let I = mini self.open m L S in
     let none = chain_none _ m ok L S few kept self.open c.args.head f.1 in
-    let p = err_from_is_err_and c.from-residual.result c.from-residual.ensures.1 in
+    let p = err_from_is_err_and c.from_residual.result c.from_residual.ensures.1 in
     let E : State = record { opened = self.open; host = m; links = L; stack = S } in
     let X : State = record { opened = self.open; host = g.H.ChainStore.meaning c.look.new.host; links = L; stack = S } in
     record {
-      told = not_head I c.args.head none _ _ c.from-residual.result p.0 p.1 (p.2 ∙ f.0);
+      told = not_head I c.args.head none _ _ c.from_residual.result p.0 p.1 (p.2 ∙ f.0);
       left = not_head_left I c.args.head none _ I _ _ (mini_same self.open m _ L S same);
-      taken = broke_by (λ r. ExtendsChain g.H.ChainStore.most layer E c.args.head c.args.count r X) c.from-residual.result p.0 p.1 (state_same self.open m _ L S same);
+      taken = broke_by (λ r. ExtendsChain g.H.ChainStore.most layer E c.args.head c.args.count r X) c.from_residual.result p.0 p.1 (state_same self.open m _ L S same);
       sound = synced_same m _ L same;
     }
 
@@ -55,9 +55,9 @@ returns-then-count-free g c =
     let S = links_of self.table.stack in
     let few = few_of self.table.links in
     let kept = kept_of self.table in
-    let ground = c.in-ok-found.found.ground in
-    let w = c.in-ok-found.ensures.told in
-    let a = along _ m ok L S few kept self.open (meant ground) c.args.head 4294967295 c.in-ok-found.found.units c.in-ok-found.found.place w.0 w.1 in
+    let ground = c.in_ok-found.found.ground in
+    let w = c.in_ok-found.ensures.told in
+    let a = along _ m ok L S few kept self.open (meant ground) c.args.head 4294967295 c.in_ok-found.found.units c.in_ok-found.found.place w.0 w.1 in
     let same = c.look.ensures.left in
     let I = mini self.open m L S in
     let less : I.room < c.args.count = omega (arith, room_of self.open m L S (meant ground) c.free-free.result kept a.stands c.free-free.ensures.told, c.if-count-free.true, c.growth.ensures) in
@@ -79,10 +79,10 @@ lengthen-requires g c =
     let S = links_of self.table.stack in
     let few = few_of self.table.links in
     let kept = kept_of self.table in
-    let ground = c.in-ok-found.found.ground in
-    let p = c.in-ok-found.found.place in
-    let w = c.in-ok-found.ensures.told in
-    let a = along _ m ok L S few kept self.open (meant ground) c.args.head 4294967295 c.in-ok-found.found.units p w.0 w.1 in
+    let ground = c.in_ok-found.found.ground in
+    let p = c.in_ok-found.found.place in
+    let w = c.in_ok-found.ensures.told in
+    let a = along _ m ok L S few kept self.open (meant ground) c.args.head 4294967295 c.in_ok-found.found.units p w.0 w.1 in
     let st = a.stands in
     let hosted = c.look.ensures.hosted st.opened in
     let s = g.H.ChainStore.meaning c.look.new.host in
@@ -91,11 +91,11 @@ lengthen-requires g c =
     let n = c.args.count in
     let f = c.free-free.result in
     let l : n ≤ f + growth (meant ground) = omega (arith, c.if-count-free.false, c.growth.ensures) in
-    let least = along_few _ m ok L S few kept self.open (meant ground) c.args.head 4294967295 c.in-ok-found.found.units p a in
+    let least = along_few _ m ok L S few kept self.open (meant ground) c.args.head 4294967295 c.in_ok-found.found.units p a in
     record {
-      sound = sound_ready _ layer self.open m s v L S few kept ok same (meant ground) st hosted n f c.saturating-sub.result c.free-free.ensures.told l c.saturating-sub.ensures c.reserve.ensures;
-      ready = enough _ layer self.open m s v L S few kept ok same (meant ground) st hosted n f c.saturating-sub.result c.free-free.ensures.told l c.saturating-sub.ensures c.reserve.ensures;
-      room = roomy _ layer self.open m s v L S few kept ok same (meant ground) st hosted n f c.saturating-sub.result c.free-free.ensures.told l c.saturating-sub.ensures c.reserve.ensures;
+      sound = sound_ready _ layer self.open m s v L S few kept ok same (meant ground) st hosted n f c.saturating_sub.result c.free-free.ensures.told l c.saturating_sub.ensures c.reserve.ensures;
+      ready = enough _ layer self.open m s v L S few kept ok same (meant ground) st hosted n f c.saturating_sub.result c.free-free.ensures.told l c.saturating_sub.ensures c.reserve.ensures;
+      room = roomy _ layer self.open m s v L S few kept ok same (meant ground) st hosted n f c.saturating_sub.result c.free-free.ensures.told l c.saturating_sub.ensures c.reserve.ensures;
       ends = ends_of _ m ok L S few kept self.open (meant ground) c.args.head 4294967295 _ p a (omega (arith, least));
     }
 
@@ -109,10 +109,10 @@ returns g c =
     let S = links_of self.table.stack in
     let few = few_of self.table.links in
     let kept = kept_of self.table in
-    let ground = c.in-ok-found.found.ground in
-    let p = c.in-ok-found.found.place in
-    let w = c.in-ok-found.ensures.told in
-    let a = along _ m ok L S few kept self.open (meant ground) c.args.head 4294967295 c.in-ok-found.found.units p w.0 w.1 in
+    let ground = c.in_ok-found.found.ground in
+    let p = c.in_ok-found.found.place in
+    let w = c.in_ok-found.ensures.told in
+    let a = along _ m ok L S few kept self.open (meant ground) c.args.head 4294967295 c.in_ok-found.found.units p w.0 w.1 in
     let st = a.stands in
     let hosted = c.look.ensures.hosted st.opened in
     let s = g.H.ChainStore.meaning c.look.new.host in
@@ -121,23 +121,23 @@ returns g c =
     let n = c.args.count in
     let f = c.free-free.result in
     let l : n ≤ f + growth (meant ground) = omega (arith, c.if-count-free.false, c.growth.ensures) in
-    let least = along_few _ m ok L S few kept self.open (meant ground) c.args.head 4294967295 c.in-ok-found.found.units p a in
+    let least = along_few _ m ok L S few kept self.open (meant ground) c.args.head 4294967295 c.in_ok-found.found.units p a in
     let after = c.lengthen.new.s in
     let h = c.lengthen.ensures.sound in
     let u = g.H.ChainStore.meaning after.host in
     let oku = g.H.ChainStore.lawful after.host in
     let M = links_of after.table.links in
     let T = links_of after.table.stack in
-    let y = extended_yes _ layer self.open m s v L S few kept ok same (meant ground) st hosted n f c.saturating-sub.result c.free-free.ensures.told l c.saturating-sub.ensures c.reserve.ensures
+    let y = extended_yes _ layer self.open m s v L S few kept ok same (meant ground) st hosted n f c.saturating_sub.result c.free-free.ensures.told l c.saturating_sub.ensures c.reserve.ensures
     u M T after.open oku h.0 h.2 (few_of after.table.links) (kept_of after.table) c.args.head _ a.chain c.lengthen.ensures.means in
     record {
       told = y.0;
       left = y.1;
       taken = (
         v,
-        prepares _ layer self.open m s v L S few kept ok same (meant ground) st hosted n f c.saturating-sub.result c.free-free.ensures.told l c.saturating-sub.ensures c.reserve.ensures,
+        prepares _ layer self.open m s v L S few kept ok same (meant ground) st hosted n f c.saturating_sub.result c.free-free.ensures.told l c.saturating_sub.ensures c.reserve.ensures,
         h.0 ∙ sym st.opened,
         c.lengthen.ensures.left ∙ ap (lengthened next_mini put_mini n (web_of v L S)) (last_of _ m ok L S few kept self.open (meant ground) c.args.head 4294967295 _ p a (omega (arith, least))),
       );
-      sound = λ z. c.lengthen.ensures.keeps (synced_ready _ layer self.open m s v L S few kept ok same (meant ground) st hosted n f c.saturating-sub.result c.free-free.ensures.told l c.saturating-sub.ensures c.reserve.ensures z);
+      sound = λ z. c.lengthen.ensures.keeps (synced_ready _ layer self.open m s v L S few kept ok same (meant ground) st hosted n f c.saturating_sub.result c.free-free.ensures.told l c.saturating_sub.ensures c.reserve.ensures z);
     }

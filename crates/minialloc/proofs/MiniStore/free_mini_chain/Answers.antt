@@ -13,8 +13,8 @@ use Rattle.minialloc.proofs.Refusals.{not_head, not_head_left, broke_by, state_s
 use Rattle.minialloc.proofs.Shrinking.{freed_yes, trim_synced}
 use Rattle.minialloc.proofs.MiniStore.free_mini_chain.Goals as goal
 
-pub returns-in-err-found : goal.returns-in-err-found
-returns-in-err-found g c =
+pub returns-in_err-found : goal.returns-in_err-found
+returns-in_err-found g c =
     let self = c.args.self.now in
     let m = g.H.ChainStore.meaning self.host in
     let ok = g.H.ChainStore.lawful self.host in
@@ -23,17 +23,17 @@ returns-in-err-found g c =
     let S = links_of self.table.stack in
     let few = few_of self.table.links in
     let kept = kept_of self.table in
-    let f = c.in-err-found.ensures.told in
+    let f = c.in_err-found.ensures.told in
     let same = c.look.ensures.left in
     let I = mini self.open m L S in
     let none = chain_none _ m ok L S few kept self.open c.args.head f.1 in
-    let p = err_from_is_err_and c.from-residual.result c.from-residual.ensures.1 in
+    let p = err_from_is_err_and c.from_residual.result c.from_residual.ensures.1 in
     let E : State = record { opened = self.open; host = m; links = L; stack = S } in
     let X : State = record { opened = self.open; host = g.H.ChainStore.meaning c.look.new.host; links = L; stack = S } in
     record {
-      told = not_head I c.args.head none _ _ c.from-residual.result p.0 p.1 (p.2 ∙ f.0);
+      told = not_head I c.args.head none _ _ c.from_residual.result p.0 p.1 (p.2 ∙ f.0);
       left = not_head_left I c.args.head none _ I _ _ (mini_same self.open m _ L S same);
-      frees = broke_by (λ r. FreesChain layer E c.args.head r X) c.from-residual.result p.0 p.1 (state_same self.open m _ L S same);
+      frees = broke_by (λ r. FreesChain layer E c.args.head r X) c.from_residual.result p.0 p.1 (state_same self.open m _ L S same);
       sound = synced_same m _ L same;
     }
 
@@ -50,9 +50,9 @@ release-requires g c =
     let s = g.H.ChainStore.meaning c.look.new.host in
     let oks = g.H.ChainStore.lawful c.look.new.host in
     let same = c.look.ensures.left in
-    let f = c.in-ok-found.ensures.told in
-    let n = c.in-ok-found.found.units in
-    let p = c.in-ok-found.found.place in
+    let f = c.in_ok-found.ensures.told in
+    let n = c.in_ok-found.found.units in
+    let p = c.in_ok-found.found.place in
     let a = found _ self.open m s L S few kept oks same _ c.args.head 0 n p f.0 f.1 in
     record {
       sound = sound_now _ self.open m s L S few kept oks same _ c.args.head 0 n p f.0 f.1 (c.look.ensures.hosted (sound_open _ self.open m s L S few kept oks same _ c.args.head 0 n p f.0 f.1));
@@ -73,9 +73,9 @@ returns g c =
     let s = g.H.ChainStore.meaning c.look.new.host in
     let oks = g.H.ChainStore.lawful c.look.new.host in
     let same = c.look.ensures.left in
-    let f = c.in-ok-found.ensures.told in
-    let n = c.in-ok-found.found.units in
-    let p = c.in-ok-found.found.place in
+    let f = c.in_ok-found.ensures.told in
+    let n = c.in_ok-found.found.units in
+    let p = c.in_ok-found.found.place in
     let x = c.release.new.s in
     let y = c.trim.new.self in
     let h = c.release.ensures.sound in

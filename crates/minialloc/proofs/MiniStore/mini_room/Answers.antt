@@ -11,8 +11,8 @@ use Rattle.mini.proofs.Told.{standing}
 use Rattle.minialloc.proofs.Refusals.{state_same}
 use Rattle.minialloc.proofs.MiniStore.mini_room.Goals as goal
 
-pub overflow-add-result : goal.overflow-add-result
-overflow-add-result g c = let self = c.args.self.now in omega (arith, c.free.ensures.told, few_of self.table.stack, c.growth.ensures, growth-within (meant c.in-Some.ground))
+pub overflow_add-result : goal.overflow_add-result
+overflow_add-result g c = let self = c.args.self.now in omega (arith, c.free.ensures.told, few_of self.table.stack, c.growth.ensures, growth-within (meant c.in-Some.ground))
 
 pub returns-in-Some : goal.returns-in-Some
 returns-in-Some g c =

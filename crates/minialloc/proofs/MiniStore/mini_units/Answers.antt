@@ -10,18 +10,18 @@ use Rattle.mini.proofs.Told.{along, chain_none}
 use Rattle.minialloc.proofs.Refusals.{not_head, state_same}
 use Rattle.minialloc.proofs.MiniStore.mini_units.Goals as goal
 
-pub returns-in-err-found : goal.returns-in-err-found
-returns-in-err-found g c =
+pub returns-in_err-found : goal.returns-in_err-found
+returns-in_err-found g c =
     let self = c.args.self.now in
     let m = g.H.ChainStore.meaning self.host in
     let L = links_of self.table.links in
     let S = links_of self.table.stack in
-    let f = c.in-err-found.ensures.told in
+    let f = c.in_err-found.ensures.told in
     let same = c.look.ensures.left in
-    let p = err_from_is_err_and c.from-residual.result c.from-residual.ensures.1 in
+    let p = err_from_is_err_and c.from_residual.result c.from_residual.ensures.1 in
     record {
       told = not_head (mini self.open m L S) c.args.head (chain_none _ m (g.H.ChainStore.lawful self.host) L S (few_of self.table.links) (kept_of self.table) self.open c.args.head f.1) None _
-          c.from-residual.result p.0 p.1 (p.2 ∙ f.0);
+          c.from_residual.result p.0 p.1 (p.2 ∙ f.0);
       left = state_same self.open m _ L S same;
     }
 
@@ -31,7 +31,7 @@ returns g c =
     let m = g.H.ChainStore.meaning self.host in
     let L = links_of self.table.links in
     let S = links_of self.table.stack in
-    let f = c.in-ok-found.ensures.told in
+    let f = c.in_ok-found.ensures.told in
     let same = c.look.ensures.left in
     let a = along _ m (g.H.ChainStore.lawful self.host) L S (few_of self.table.links) (kept_of self.table) self.open _ c.args.head 0 _ _ f.0 f.1 in
     let M = mini self.open m L S in

@@ -10,20 +10,20 @@ use Rattle.minialloc.proofs.Copies.{sound_open, sound_now, past_told, past_left,
 use Rattle.minialloc.proofs.Refusals.{not_head, not_head_left, state_same}
 use Rattle.minialloc.proofs.MiniStore.read_mini_chain.Goals as goal
 
-pub returns-in-err-found : goal.returns-in-err-found
-returns-in-err-found g c =
+pub returns-in_err-found : goal.returns-in_err-found
+returns-in_err-found g c =
     let self = c.args.self.now in
     let m = g.H.ChainStore.meaning self.host in
     let ok = g.H.ChainStore.lawful self.host in
     let L = links_of self.table.links in
     let S = links_of self.table.stack in
-    let f = c.in-err-found.ensures.told in
+    let f = c.in_err-found.ensures.told in
     let same = c.look.ensures.left in
     let M = mini self.open m L S in
     let none = chain_none _ m ok L S (few_of self.table.links) (kept_of self.table) self.open c.args.head f.1 in
-    let p = err_from_is_err_and c.from-residual.result c.from-residual.ensures.1 in
+    let p = err_from_is_err_and c.from_residual.result c.from_residual.ensures.1 in
     record {
-      told = not_head M c.args.head none _ _ c.from-residual.result p.0 p.1 (p.2 ∙ f.0);
+      told = not_head M c.args.head none _ _ c.from_residual.result p.0 p.1 (p.2 ∙ f.0);
       out = not_head_left M c.args.head none _ c.args.out.now _ c.args.out.now refl;
       left = state_same self.open m _ L S same;
     }
@@ -38,11 +38,11 @@ returns-then-not-holds g c =
     let s = g.H.ChainStore.meaning c.look.new.host in
     let oks = g.H.ChainStore.lawful c.look.new.host in
     let same = c.look.ensures.left in
-    let f = c.in-ok-found.ensures.told in
+    let f = c.in_ok-found.ensures.told in
     let few = few_of self.table.links in
     let kept = kept_of self.table in
-    let n = c.in-ok-found.found.units in
-    let p = c.in-ok-found.found.place in
+    let n = c.in_ok-found.found.units in
+    let p = c.in_ok-found.found.place in
     let end = c.args.at + length c.args.out.now in
     let past : n * 64 < end = leb-false end (n * 64) (sym c.holds.ensures ∙ c.if-not-holds.true) in
     record {
@@ -51,8 +51,8 @@ returns-then-not-holds g c =
       left = state_same self.open m _ L S same;
     }
 
-pub read-chain-requires : goal.read-chain-requires
-read-chain-requires g c =
+pub read_chain-requires : goal.read_chain-requires
+read_chain-requires g c =
     let self = c.args.self.now in
     let m = g.H.ChainStore.meaning self.host in
     let ok = g.H.ChainStore.lawful self.host in
@@ -61,11 +61,11 @@ read-chain-requires g c =
     let s = g.H.ChainStore.meaning c.look.new.host in
     let oks = g.H.ChainStore.lawful c.look.new.host in
     let same = c.look.ensures.left in
-    let f = c.in-ok-found.ensures.told in
+    let f = c.in_ok-found.ensures.told in
     let few = few_of self.table.links in
     let kept = kept_of self.table in
-    let n = c.in-ok-found.found.units in
-    let p = c.in-ok-found.found.place in
+    let n = c.in_ok-found.found.units in
+    let p = c.in_ok-found.found.place in
     let within : c.args.at + length c.args.out.now ≤ n * 64 = leb-true _ _ (sym c.holds.ensures ∙ c.if-not-holds.false) in
     record {
       sound = sound_now _ self.open m s L S few kept oks same _ c.args.head 0 n p f.0 f.1 (c.look.ensures.hosted (sound_open _ self.open m s L S few kept oks same _ c.args.head 0 n p f.0 f.1));
@@ -83,18 +83,18 @@ returns g c =
     let s = g.H.ChainStore.meaning c.look.new.host in
     let oks = g.H.ChainStore.lawful c.look.new.host in
     let same = c.look.ensures.left in
-    let f = c.in-ok-found.ensures.told in
+    let f = c.in_ok-found.ensures.told in
     let few = few_of self.table.links in
     let kept = kept_of self.table in
-    let n = c.in-ok-found.found.units in
-    let p = c.in-ok-found.found.place in
+    let n = c.in_ok-found.found.units in
+    let p = c.in_ok-found.found.place in
     let within : c.args.at + length c.args.out.now ≤ n * 64 = leb-true _ _ (sym c.holds.ensures ∙ c.if-not-holds.false) in
-    let after = c.read-chain.new.s in
-    let h = c.read-chain.ensures.sound in
-    let y = read_yes _ self.open m s L S few kept oks same _ c.args.head 0 n p f.0 f.1 c.args.at c.args.out.now c.read-chain.new.out within c.read-chain.ensures.read in
+    let after = c.read_chain.new.s in
+    let h = c.read_chain.ensures.sound in
+    let y = read_yes _ self.open m s L S few kept oks same _ c.args.head 0 n p f.0 f.1 c.args.at c.args.out.now c.read_chain.new.out within c.read_chain.ensures.read in
     record {
       told = y.0;
       out = y.1;
       left = read_left _ self.open m s L S few kept oks same _ c.args.head 0 n p f.0 f.1 (g.H.ChainStore.meaning after.host) (links_of after.table.links) (links_of after.table.stack) after.open (g.H.ChainStore.lawful after.host) h.0 h.2
-          (few_of after.table.links) (kept_of after.table) c.read-chain.ensures.same;
+          (few_of after.table.links) (kept_of after.table) c.read_chain.ensures.same;
     }

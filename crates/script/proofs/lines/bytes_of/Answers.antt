@@ -39,11 +39,11 @@ of_pairs w t r same d n = ap pairs same ∙ rw (not_same w (codes "-") r d n)
 pub returns-in-None : goal.returns-in-None
 returns-in-None c =
     stop c.loop-rest.rest.now (vec_items c.loop-rest.all) _ (grind arith) c.in-None.ensures c.loop-rest.invariant
-    ∙ of_pairs c.args.word.now _ _ c.as-bytes-rest.ensures.value c.eq.ensures c.if-eq.false
+    ∙ of_pairs c.args.word.now _ _ c.as_bytes-rest.ensures.value c.eq.ensures c.if-eq.false
 
 pub loop-rest-preserved : goal.loop-rest-preserved
 loop-rest-preserved c =
     let rest = c.loop-rest.rest.now in
-    ap (λ xs. behind xs (pairs (take (length rest - 2) (drop 2 rest)))) c.in-ok-push.ensures.items
+    ap (λ xs. behind xs (pairs (take (length rest - 2) (drop 2 rest)))) c.in_ok-push.ensures.items
     ∙ ap (λ t. behind (vec_items c.loop-rest.all ++ c.in-Some.byte ∷ []) (pairs t)) (take_rest rest 2)
     ∙ step rest (vec_items c.loop-rest.all) _ _ (grind arith) c.in-Some.ensures c.loop-rest.invariant

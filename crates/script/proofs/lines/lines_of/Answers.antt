@@ -12,25 +12,25 @@ loop-i-init c =
     let text = c.args.text.now in (
       ap (λ vs. map (λ x. x.now) vs ++ lines_of text) c.new-all.ensures.items,
       omega arith,
-      IsCharBoundary-start text (subst IsUtf8 c.as-bytes-byte-items.ensures.value c.as-bytes-byte-items.ensures.utf8),
+      IsCharBoundary-start text (subst IsUtf8 c.as_bytes-byte-items.ensures.value c.as_bytes-byte-items.ensures.utf8),
     )
 
 pub loop-i-preserved : goal.loop-i-preserved
 loop-i-preserved c =
     let text = c.args.text.now in
-    let same = c.as-bytes-byte-items.ensures.value in
+    let same = c.as_bytes-byte-items.ensures.value in
     let i = c.loop-i.i in
     let start = c.loop-i.start in
     let l : i < length text = omega (arith, ap length same) in
     let ls = map (λ x. x.now) (vec_items c.loop-i.all) in
     let st : State lines_after text i start ls = c.loop-i.invariant in
     elim c.if-byte-eq-FEED.branch [
-      | goal.then-byte-eq-FEED+in-ok-push w ↦
+      | goal.then-byte-eq-FEED+in_ok-push w ↦
           let feed : get_or text i 0 ≡ 10 = ap (λ t. get_or t i 0) (sym same) ∙ w.if-byte-eq-FEED.true in
           rw (w.start-is, w.all-is)
-          (ended lines_after text i start ls st l (omega arith) (rw same at c.as-bytes-byte-items.ensures.utf8) (held text start i ∷ []) _
+          (ended lines_after text i start ls st l (omega arith) (rw same at c.as_bytes-byte-items.ensures.utf8) (held text start i ∷ []) _
           (cond-true _ _ _ (eq-eqb (get_or text i 0) 10 feed))
-          (ap (map (λ x. x.now)) w.in-ok-push.ensures.items ∙ map_push (λ x. x.now) _ _ ∙ ap (λ v. ls ++ v ∷ []) w.range.ensures.value))
+          (ap (map (λ x. x.now)) w.in_ok-push.ensures.items ∙ map_push (λ x. x.now) _ _ ∙ ap (λ v. ls ++ v ∷ []) w.range.ensures.value))
       | goal.else-byte-eq-FEED w ↦
           rw (w.start-is, w.all-is)
           (grown lines_after text i start ls st l
@@ -41,6 +41,6 @@ pub returns : goal.returns
 returns c =
     let text = c.args.text.now in
     let ls = map (λ x. x.now) (vec_items c.loop-i.all) in
-    passed lines_after text c.loop-i.i c.loop-i.start ls c.loop-i.invariant (omega (arith, ap length c.as-bytes-byte-items.ensures.value))
+    passed lines_after text c.loop-i.i c.loop-i.start ls c.loop-i.invariant (omega (arith, ap length c.as_bytes-byte-items.ensures.value))
     _ _ refl
-    (ap (map (λ x. x.now)) c.in-ok-push-2.ensures.items ∙ map_push (λ x. x.now) _ _ ∙ ap (λ v. ls ++ v ∷ []) c.range-from.ensures.value)
+    (ap (map (λ x. x.now)) c.in_ok-push-2.ensures.items ∙ map_push (λ x. x.now) _ _ ∙ ap (λ v. ls ++ v ∷ []) c.range-from.ensures.value)

@@ -44,26 +44,26 @@ loop-i-init c =
     let line = c.args.line.now in (
       ap (λ vs. map (λ x. x.now) vs ++ words_of line) c.new-all.ensures.items,
       omega arith,
-      IsCharBoundary-start line (subst IsUtf8 c.as-bytes-byte-items.ensures.value c.as-bytes-byte-items.ensures.utf8),
+      IsCharBoundary-start line (subst IsUtf8 c.as_bytes-byte-items.ensures.value c.as_bytes-byte-items.ensures.utf8),
     )
 
 pub loop-i-preserved : goal.loop-i-preserved
 loop-i-preserved c =
     let line = c.args.line.now in
-    let same = c.as-bytes-byte-items.ensures.value in
+    let same = c.as_bytes-byte-items.ensures.value in
     let i = c.loop-i.i in
     let start = c.loop-i.start in
     let l : i < length line = omega (arith, ap length same) in
     let ws = map (λ x. x.now) (vec_items c.loop-i.all) in
     let st : State words_after line i start ws = c.loop-i.invariant in
-    elim c.if-is-blank.branch [
-      | goal.then-is-blank+in-ok-close w ↦
+    elim c.if-is_blank.branch [
+      | goal.then-is_blank+in_ok-close w ↦
           rw (w.start-is, w.all-is)
-          (past line _ same i start l ws st w.if-is-blank.ensures c.as-bytes-byte-items.ensures.utf8 _
-          (w.in-ok-close.ensures ∙ ap (λ v. ws ++ closed v) w.range.ensures.value))
-      | goal.else-is-blank+else-start-i w ↦
+          (past line _ same i start l ws st w.if-is_blank.ensures c.as_bytes-byte-items.ensures.utf8 _
+          (w.in_ok-close.ensures ∙ ap (λ v. ws ++ closed v) w.range.ensures.value))
+      | goal.else-is_blank+else-start-i w ↦
           rw (w.start-is, w.all-is)
-          (along line _ same i start l ws st w.if-is-blank.ensures
+          (along line _ same i start l ws st w.if-is_blank.ensures
           (elim w.else-start-i.branch [
             | goal.else-start-i-via-then-start-i+else-byte-eq-COMMENT v ↦
                 no_comment _ _ (ne_eqb (get_or line i 0) 35 (λ e. v.if-byte-eq-COMMENT.false (ap (λ t. get_or t i 0) same ∙ e)))
@@ -73,13 +73,13 @@ loop-i-preserved c =
 
 pub returns-then-byte-eq-COMMENT : goal.returns-then-byte-eq-COMMENT
 returns-then-byte-eq-COMMENT c =
-    let same = c.as-bytes-byte-items.ensures.value in
+    let same = c.as_bytes-byte-items.ensures.value in
     hash c.args.line.now _ same c.loop-i.i c.loop-i.start (omega (arith, ap length same)) _ c.loop-i.invariant
-    c.if-is-blank.ensures c.if-start-i.true c.if-byte-eq-COMMENT.true
+    c.if-is_blank.ensures c.if-start-i.true c.if-byte-eq-COMMENT.true
 
 pub returns : goal.returns
 returns c =
     let line = c.args.line.now in
     let ws = map (λ x. x.now) (vec_items c.loop-i.all) in
-    passed words_after line c.loop-i.i c.loop-i.start ws c.loop-i.invariant (omega (arith, ap length c.as-bytes-byte-items.ensures.value))
-    _ _ refl (c.in-ok-close-2.ensures ∙ ap (λ v. ws ++ closed v) c.range-from.ensures.value)
+    passed words_after line c.loop-i.i c.loop-i.start ws c.loop-i.invariant (omega (arith, ap length c.as_bytes-byte-items.ensures.value))
+    _ _ refl (c.in_ok-close-2.ensures ∙ ap (λ v. ws ++ closed v) c.range-from.ensures.value)

@@ -3,11 +3,11 @@ use Rattle.std.proofs.Common.{refl, arith}
 use Rattle.cells.proofs.Along.{few_units, next_some, next_none}
 use Rattle.cells.proofs.copies.CellsUnits.next.Goals as goal
 
-pub overflow-cast-rank : goal.overflow-cast-rank
-overflow-cast-rank c = omega (arith, few_units c.args.self.now c.args.head)
+pub overflow_cast-rank : goal.overflow_cast-rank
+overflow_cast-rank c = omega (arith, few_units c.args.self.now c.args.head)
 
-pub overflow-add-rank : goal.overflow-add-rank
-overflow-add-rank c = omega (arith, few_units c.args.self.now c.args.head)
+pub overflow_add-rank : goal.overflow_add-rank
+overflow_add-rank c = omega (arith, few_units c.args.self.now c.args.head)
 
 pub unreachable-requires : goal.unreachable-requires
 unreachable-requires c = next_none c.args.self.now c.args.head c.args.rank c.requires.more c.in-None.ensures

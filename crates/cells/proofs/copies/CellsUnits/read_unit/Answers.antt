@@ -8,7 +8,7 @@ returns c =
     let B = c.args.self.now.bytes in
     let n = length c.args.out.now in
     record {
-      read = c.copy-from-slice.ensures.after ∙ ap (λ k. take k (drop (c.args.place * 512 + c.args.at) B)) (omega arith)
+      read = c.copy_from_slice.ensures.after ∙ ap (λ k. take k (drop (c.args.place * 512 + c.args.at) B)) (omega arith)
           ∙ sym (slice_cell 512 B c.args.place c.args.at n c.requires.inside);
       same = refl;
       sound = c.requires.sound;

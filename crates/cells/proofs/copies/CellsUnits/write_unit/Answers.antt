@@ -3,11 +3,11 @@ use Rattle.std.proofs.Common.{◌+◌, ◌*◌, ap, arith}
 use Rattle.cells.proofs.Along.{written_kept, written_view, written_whole}
 use Rattle.cells.proofs.copies.CellsUnits.write_unit.Goals as goal
 
-pub invariant-of-self : goal.invariant-of-self
-invariant-of-self c = written_kept c.args.self.now (c.args.place * 512 + c.args.at) c.copy-from-slice.new.self c.args.src.now c.copy-from-slice.ensures.after (omega arith)
+pub invariant_of-self : goal.invariant_of-self
+invariant_of-self c = written_kept c.args.self.now (c.args.place * 512 + c.args.at) c.copy_from_slice.new.self c.args.src.now c.copy_from_slice.ensures.after (omega arith)
 
 pub returns : goal.returns
 returns c = record {
-  put = written_view c.args.self.now (c.args.place * 512 + c.args.at) c.copy-from-slice.new.self c.args.src.now c.copy-from-slice.ensures.after (omega arith);
-  sound = written_whole c.args.self.now (c.args.place * 512 + c.args.at) c.copy-from-slice.new.self c.args.src.now c.copy-from-slice.ensures.after (omega arith);
+  put = written_view c.args.self.now (c.args.place * 512 + c.args.at) c.copy_from_slice.new.self c.args.src.now c.copy_from_slice.ensures.after (omega arith);
+  sound = written_whole c.args.self.now (c.args.place * 512 + c.args.at) c.copy_from_slice.new.self c.args.src.now c.copy_from_slice.ensures.after (omega arith);
 }

@@ -20,7 +20,7 @@ returns g c =
     let host = c.args.self.now.host in
     let m = g.H.ChainStore.meaning host in
     let s = g.H.ChainStore.meaning c.occupy.new.host in
-    let v = g.H.ChainStore.meaning c.write-link.new.host in
+    let v = g.H.ChainStore.meaning c.write_link.new.host in
     let ok = g.H.ChainStore.lawful host in
     let layer = g.H.ChainStore.layer in
     let h = c.requires.sound in
@@ -29,7 +29,7 @@ returns g c =
     let fresh = ap (λ n. eqb n 0) c.free-fresh.ensures.told in
     let p = joined_is _ m ok h.1 L (few_of t.links) h.2 S L S layer _ (kept_of t) c.requires.ready fresh c.args.last c.requires.end c.in-Some.place c.in-Some.ensures.told in
     let made = join_made _ m ok h.1 L (few_of t.links) h.2 S (links_of u.links) (links_of u.stack) layer _ (kept_of t) c.requires.ready fresh c.args.last c.requires.end
-    s v c.in-Some.place p c.append.ensures.table c.append.ensures.places (kept_of u) c.occupy.ensures c.write-link.ensures in
+    s v c.in-Some.place p c.append.ensures.table c.append.ensures.places (kept_of u) c.occupy.ensures c.write_link.ensures in
     record {
       sound = (h.0, made.hosted, made.borne);
       keeps = made.synced;

@@ -14,10 +14,10 @@ returns g c =
     let m = g.H.ChainStore.meaning self.host in
     let layer = g.H.ChainStore.layer in
     let out = c.args.out.now in
-    let same = c.read-stream.ensures.left in
+    let same = c.read_stream.ensures.left in
     let e = c.from.ensures in
     record {
-      read = c.read-stream.ensures.out ∙ ap (λ p. read_into m layer (stream_at m) (p * 64 + c.args.at) out) e ∙ read_of_unit m layer c.args.place c.args.at c.requires.unit out c.requires.inside;
+      read = c.read_stream.ensures.out ∙ ap (λ p. read_into m layer (stream_at m) (p * 64 + c.args.at) out) e ∙ read_of_unit m layer c.args.place c.args.at c.requires.unit out c.requires.inside;
       same = ap (λ s. viewed (web_of s (links_of self.table.links) (links_of self.table.stack))) same;
       sound = sound_same m _ self.open _ same c.requires.sound;
     }

@@ -8,7 +8,7 @@ use Rattle.minifat.proofs.gathering.Gathered.add_block.Goals as goal
 
 pub loop-place-preserved : goal.loop-place-preserved
 loop-place-preserved c =
-    gathered-more _ _ _ (link_in c.args.block.now) _ _ c.loop-place.invariant c.from-le-bytes.ensures c.add.ensures
+    gathered-more _ _ _ (link_in c.args.block.now) _ _ c.loop-place.invariant c.from_le_bytes.ensures c.add.ensures
 
 pub returns : goal.returns
 returns c =
