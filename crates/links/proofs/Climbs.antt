@@ -1,11 +1,11 @@
 -- A place from which the pointers lead to END is on the chain of a head.
 -- Assumes nothing.
-use Rattle.std.proofs.Common.{◌≡◌, ℕ, zero, suc, ◌+◌, ◌<◌, ◌≤◌, true, eqb, ltb, ◌≢◌, ◌⊎◌, ◌↔◌, List, [], ◌∷◌, length, sym, refl, ap, ◌∙◌, inl, inr, ⊎_elim, arith}
+use Rattle.std.proofs.Common.{◌≡◌, ℕ, zero, suc, ◌+◌, ◌<◌, ◌≤◌, true, eqb, ltb, ◌↔◌, List, [], ◌∷◌, length, sym, refl, ◌∙◌, inl, inr, ⊎_elim, arith}
 use Rattle.std.proofs.lemmas.Bool.{cases_Bool, eq-eqb, eqb-true, ltb-true, or_cases}
 use Rattle.links.specs.Links.{END, POINTERS, at, In, Path, Head, OnChain}
 use Rattle.links.specs.Walk.{stop, trace, holds}
 use Rattle.links.proofs.Counts.{inside, path_short}
-use Rattle.links.proofs.Paths.{onward, after, used}
+use Rattle.links.proofs.Paths.{onward, used}
 use Rattle.links.proofs.Traces.{trace-path, path-trace, none-holds, Whole, met_some, met_none}
 
 holder : (L : List ℕ) (p : ℕ) → holds p L ≡ true → (q : ℕ) × (q < length L) × (at L q ≡ p)

@@ -1,10 +1,10 @@
 -- What one write to a link table does to its heads and their paths.
 -- Assumes nothing.
-use Rattle.std.proofs.Common.{◌≡◌, ℕ, ◌+◌, ◌<◌, ◌≤◌, ◌≢◌, ◌⊎◌, ◌↔◌, List, [], ◌∷◌, ◌++◌, length, get_or, set, sym, refl, ap, ◌∙◌, subst, inl, inr, ⊎_elim, arith}
+use Rattle.std.proofs.Common.{◌≡◌, ℕ, ◌<◌, ◌≢◌, List, [], ◌∷◌, ◌++◌, length, set, sym, refl, ap, ◌∙◌, subst, inl, ⊎_elim, arith}
 use Rattle.std.proofs.lemmas.Bool.{cases_eq}
 use Rattle.std.proofs.lemmas.List.{get_or-set_same, get_or-set_other}
 use Rattle.links.specs.Links.{FREE, END, POINTERS, at, In, Seg, Path, Checked, Head}
-use Rattle.links.specs.Chains.{Wrote, Others, Taken, Appended, Parted, Freed, Extended}
+use Rattle.links.specs.Chains.{Wrote, Others, Taken, Appended, Parted, Freed}
 use Rattle.links.proofs.Members.{in_mid, mid_apart}
 use Rattle.links.proofs.Paths.{frame, used, same_head, no_repeat, starts, parts, join}
 

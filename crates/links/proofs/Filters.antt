@@ -1,8 +1,8 @@
 -- What a filter keeps.
 -- Assumes nothing.
-use Rattle.std.proofs.Common.{◌≡◌, ℕ, ◌-◌, Bool, true, false, ◌⊎◌, List, [], ◌∷◌, filter, sym, ap, ◌∙◌, inl, inr, ⊎_elim}
+use Rattle.std.proofs.Common.{◌≡◌, ℕ, Bool, true, false, ◌⊎◌, List, [], ◌∷◌, filter, sym, ap, ◌∙◌, inl, inr, ⊎_elim}
 use Rattle.std.proofs.lemmas.Bool.{cases_Bool, cond_both}
-use Rattle.links.specs.Links.{at, In, Apart}
+use Rattle.links.specs.Links.{In, Apart}
 
 -- a filter keeps what passes, once where it was there once
 module _ (p : ℕ → Bool) where

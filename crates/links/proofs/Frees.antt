@@ -1,12 +1,12 @@
 -- How many places are FREE: as many as the stack holds, and what trimming leaves of them.
 -- Assumes nothing.
-use Rattle.std.proofs.Common.{◌≡◌, ℕ, zero, suc, ◌+◌, ◌-◌, ◌<◌, ◌≤◌, Bool, true, cond, ◌⊎◌, List, [], ◌∷◌, ◌++◌, length, get_or, take, sum_by, count_by, filter, sym, refl, ap, ◌∙◌, inl, inr, ⊎_elim, add-zero, add-suc, arith}
+use Rattle.std.proofs.Common.{◌≡◌, ℕ, zero, suc, ◌+◌, ◌-◌, ◌<◌, ◌≤◌, true, cond, List, [], ◌∷◌, ◌++◌, length, get_or, take, sum_by, count_by, sym, refl, ap, ◌∙◌, inl, inr, ⊎_elim, add-zero, arith}
 use Rattle.std.specs.List.{range_with_len}
 use Rattle.std.proofs.lemmas.List.{length-append}
 use Rattle.std.proofs.lemmas.List.Sums.{length-filter, sum_by-cons}
-use Rattle.std.proofs.lemmas.Bool.{cases_eq, eq-eqb}
-use Rattle.links.specs.Links.{FREE, free, at, In, Apart, Checked}
-use Rattle.links.specs.Stack.{Stacks, free_places}
+use Rattle.std.proofs.lemmas.Bool.{eq-eqb}
+use Rattle.links.specs.Links.{FREE, free, at, In, Apart}
+use Rattle.links.specs.Stack.{free_places}
 use Rattle.links.proofs.Members.{in_left, in_right, in_append}
 use Rattle.links.proofs.Stacks.{Kept}
 use Rattle.links.proofs.Layings.{kept_laid}

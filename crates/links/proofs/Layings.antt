@@ -1,6 +1,6 @@
 -- The FREE places of a table are laid on a stack.
 -- Assumes nothing.
-use Rattle.std.proofs.Common.{◌≡◌, ℕ, zero, suc, ◌+◌, ◌-◌, ◌<◌, ◌≤◌, Bool, true, false, cond, ltb, ◌≢◌, ◌⊎◌, List, [], ◌∷◌, ◌++◌, length, get_or, take, Ok, filter, sym, refl, ap, ◌∙◌, inl, inr, ⊎_elim, arith}
+use Rattle.std.proofs.Common.{◌≡◌, ℕ, zero, suc, ◌+◌, ◌<◌, ◌≤◌, Bool, true, false, cond, ltb, ◌≢◌, List, [], ◌∷◌, ◌++◌, length, get_or, take, Ok, filter, sym, refl, ap, ◌∙◌, inl, inr, ⊎_elim, arith}
 use Rattle.std.specs.List.{range_with_len}
 use Rattle.std.proofs.lemmas.List.{append-nil, take_all, length-take}
 use Rattle.std.proofs.lemmas.List.FromFn.{length-range_with_len, get_or-range_with_len}
@@ -10,7 +10,6 @@ use Rattle.std.proofs.lemmas.Bool.{cases_eq, lt-ltb, eqb-true, eq-eqb, ne_eqb}
 use Rattle.links.specs.Links as links
 use Rattle.links.specs.Links.{FREE, at, In, Apart, Checked}
 use Rattle.links.specs.Check.{verdict}
-use Rattle.links.specs.Walk.{holds}
 use Rattle.links.specs.Stack.{free_places}
 use Rattle.links.proofs.Verdicts.{decides}
 use Rattle.links.proofs.Stacks.{Kept}

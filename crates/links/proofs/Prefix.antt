@@ -1,10 +1,10 @@
 -- The first n numbers of a longer list, as a table of their own.
 -- Assumes nothing.
-use Rattle.std.proofs.Common.{◌≡◌, ℕ, ◌<◌, ◌≤◌, true, false, ltb, ◌≢◌, List, length, get_or, take, set, Some, None, Option, sym, refl, ap, ◌∙◌, ⊎_elim, arith, rules}
+use Rattle.std.proofs.Common.{◌≡◌, ℕ, ◌<◌, ◌≤◌, List, length, get_or, take, set, Some, None, sym, ap, ◌∙◌, arith}
 use Rattle.std.specs.List.{slice_get}
-use Rattle.std.proofs.lemmas.List.{same_lists, places, length-take-le, length-set, get_or-take, get_or-set_same, get_or-set_other, set_past}
+use Rattle.std.proofs.lemmas.List.{same_lists, length-take-le, length-set, get_or-take, get_or-set_same, get_or-set_other, set_past}
 use Rattle.std.proofs.lemmas.Option.{slice_get-get_or, slice_get_past}
-use Rattle.std.proofs.lemmas.Bool.{cases_eq, le-ltb, lt-ltb}
+use Rattle.std.proofs.lemmas.Bool.{cases_eq}
 
 module _ (xs : List ℕ) (n : ℕ) (few : n ≤ length xs) where
   pub held_some : (p : ℕ) → p < n → Some (get_or xs p 0) ≡ slice_get (take n xs) p

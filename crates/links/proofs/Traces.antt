@@ -1,11 +1,11 @@
 -- A walk computes the path, and a test decides what is a head.
 -- Assumes nothing.
-use Rattle.std.proofs.Common.{◌≡◌, ℕ, zero, suc, ◌+◌, ◌-◌, ◌<◌, ◌≤◌, min, Bool, true, false, cond, not, ◌&&◌, ◌||◌, eqb, ltb, ◌≢◌, ◌⊎◌, ◌↔◌, List, [], ◌∷◌, length, drop, is_some, Some, None, Option, sym, refl, ap, ◌∙◌, inl, inr, ⊎_elim, arith}
+use Rattle.std.proofs.Common.{◌≡◌, ℕ, zero, suc, ◌+◌, ◌-◌, ◌<◌, ◌≤◌, min, Bool, true, false, cond, not, eqb, ltb, ◌≢◌, ◌⊎◌, ◌↔◌, List, [], ◌∷◌, length, drop, is_some, Some, None, Option, sym, refl, ap, ◌∙◌, inl, inr, ⊎_elim, arith}
 use Rattle.std.specs.List.{slice_get}
 use Rattle.std.specs.Option.{option_map}
 use Rattle.std.proofs.lemmas.List.{at_drop_more, at_drop_all}
 use Rattle.std.proofs.lemmas.Bool.{cases_lt, false≢true, and_left, and_right, not_from_true, eqb-true, eqb-false, eq-eqb, ne_eqb, ltb-true, lt-ltb, le-ltb, and_parts, and_from, or_parts, or_from, or_left, not-true, not_from_false}
-use Rattle.links.specs.Links.{FREE, END, POINTERS, at, In, Path, Head, IsHead, Units}
+use Rattle.links.specs.Links.{FREE, END, POINTERS, at, Path, Head, IsHead, Units}
 use Rattle.links.specs.declared.walks.Surveyed.{Surveyed}
 use Rattle.links.specs.Walk.{stop, trace, last_or, reach, holds, headed, chain_of, surveyed}
 use Rattle.links.proofs.Counts.{inside, path_short}

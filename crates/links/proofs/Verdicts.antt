@@ -1,11 +1,11 @@
 -- The check: the steps of its loop, and that it accepts exactly the checked tables.
 -- Assumes nothing.
-use Rattle.std.proofs.Common.{◌≡◌, ℕ, zero, suc, ◌+◌, ◌<◌, ◌≤◌, Bool, true, false, cond, ◌||◌, eqb, ltb, ◌≢◌, ◌⊎◌, ◌↔◌, List, [], ◌∷◌, ◌++◌, length, get_or, take, set, replicate, Some, None, Ok, Err, Option, Result, sym, refl, ap, ◌∙◌, inl, inr, ⊎_elim, arith}
+use Rattle.std.proofs.Common.{◌≡◌, ℕ, zero, suc, ◌+◌, ◌<◌, ◌≤◌, Bool, true, false, cond, ◌||◌, eqb, ◌≢◌, ◌↔◌, List, [], ◌∷◌, ◌++◌, length, get_or, take, set, replicate, Some, None, Ok, Err, Option, Result, sym, refl, ap, ◌∙◌, ⊎_elim, arith}
 use Rattle.std.proofs.lemmas.List.{get_or-replicate, get_or-set_same, get_or-set_other, get_or-take, get_or_past, length-take, length-set, take_more}
-use Rattle.std.proofs.lemmas.Bool.{cases_Bool, cases_eq, cases_lt, cases_order, eq-eqb, ne_eqb, eqb-false, lt-ltb, le-ltb, or_right}
+use Rattle.std.proofs.lemmas.Bool.{cases_Bool, cases_eq, cases_lt, cases_order, eq-eqb, ne_eqb, lt-ltb, le-ltb, or_right}
 use Rattle.links.specs.declared.checks.LinkFault.{LinkFault}
 use Rattle.links.specs.declared.checks.LinkFault.TheVariants.{Dangling, Shared}
-use Rattle.links.specs.Check.{place_of, pointer_fault, fault_at, or_else, first_fault, answer, verdict, Lowest}
+use Rattle.links.specs.Check.{place_of, fault_at, or_else, first_fault, answer, verdict, Lowest}
 use Rattle.links.specs.Links.{FREE, POINTERS, at, Checked}
 use Rattle.links.specs.Walk.{holds}
 use Rattle.links.proofs.Counts.{inside}

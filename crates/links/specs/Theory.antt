@@ -1,7 +1,7 @@
 -- What is true of every table and of every change of one: the theorems that the layers above rest on.
 -- Assumes nothing.
 use Rattle.std.specs.Prelude.{◌≡◌, ℕ, ◌+◌, ◌<◌, ◌≤◌, ◌≢◌, ◌↔◌, List, [], ◌∷◌, ◌++◌, length, take, Some, Ok, sum_by, count_by, slice_set}
-use Rattle.links.specs.Links.{FREE, END, POINTERS, free, at, In, Apart, Seg, Path, Checked, Head}
+use Rattle.links.specs.Links.{FREE, END, POINTERS, free, at, In, Apart, Path, Checked, Head}
 use Rattle.links.specs.Chains.{Wrote, Wiped, Wiping, Taken, Appended, Parted, Freed, FreedWhole, Extended, Shortened}
 use Rattle.links.specs.Check.{verdict}
 use Rattle.links.specs.Walk.{chain_of}

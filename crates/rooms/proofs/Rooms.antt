@@ -1,6 +1,6 @@
 -- How the growth of a mini store changes when sectors are added and when the table grows.
 -- Assumes nothing.
-use Rattle.std.proofs.Common.{◌≡◌, ℕ, zero, suc, ◌+◌, ◌-◌, ◌/◌, ◌<◌, ◌≤◌, Bool, true, false, cond, ◌&&◌, leb, ◌⊎◌, sym, refl, ap, ◌∙◌, inl, inr, le-div_iff_mul-le, div-mul-le_self, arith}
+use Rattle.std.proofs.Common.{◌≡◌, ℕ, zero, suc, ◌+◌, ◌-◌, ◌/◌, ◌<◌, ◌≤◌, Bool, true, false, cond, leb, ◌⊎◌, sym, refl, ap, ◌∙◌, inl, inr, le-div_iff_mul-le, div-mul-le_self, arith}
 use Rattle.rooms.specs.Rooms.{Ground, up, fats_needed, minis_needed, need, fits, largest, growth, reserved, taller}
 use Rattle.std.proofs.lemmas.Bool.{cases_lt, leb-true, le-leb, and_parts, and_from, true≢false}
 use native.Mathlib.Nat.{div-zero}

@@ -1,6 +1,6 @@
 -- How far the table of a mini store can grow over a host.
 -- Assumes nothing.
-use Rattle.std.specs.Prelude.{◌≡◌, ℕ, zero, suc, ◌+◌, ◌-◌, ◌*◌, ◌/◌, ◌≤◌, Bool, cond, ◌&&◌, nat_le}
+use Rattle.std.specs.Prelude.{ℕ, zero, suc, ◌+◌, ◌-◌, ◌/◌, Bool, cond, ◌&&◌, nat_le}
 
 -- the host's unit in bytes; the links of the table; the root length in mini sectors; the sectors of the MiniFAT and of the
 -- mini stream; the host's room

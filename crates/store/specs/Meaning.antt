@@ -1,13 +1,13 @@
 -- What a chain store and a host mean.
 -- Assumes nothing.
-use Rattle.std.specs.Prelude.{◌≡◌, ℕ, ◌+◌, ◌-◌, ◌*◌, ◌/◌, ◌<◌, ◌≤◌, Bool, cond, ◌||◌, ◌⊎◌, List, [], ◌++◌, length, take, drop, replicate, Some, None, Ok, Err, sum_by, Option, Result, ◌==◌, nat_eq, nat_lt, slice_index_or, slice_set}
+use Rattle.std.specs.Prelude.{◌≡◌, ℕ, ◌+◌, ◌-◌, ◌*◌, ◌/◌, ◌<◌, ◌≤◌, cond, ◌||◌, ◌⊎◌, List, [], ◌++◌, length, take, drop, replicate, Some, None, Ok, Err, sum_by, Option, Result, ◌==◌, nat_eq, nat_lt, slice_index_or, slice_set}
 use Rattle.std.specs.List.{slice_get}
 use Rattle.std.specs.Option.{unwrap_or}
 use Rattle.std.specs.Map.{update}
 use Rattle.links.specs.Links.{Apart}
 use Rattle.store.specs.declared.entries.Entry.{Entry}
 use Rattle.store.specs.declared.entries.Words.{Words}
-use Rattle.store.specs.Refusals.{Refused, answer, unless}
+use Rattle.store.specs.Refusals.{Refused, unless}
 
 -- what chain calls keep: of a host its entries and header words; of a store over a host, the host's other entries and chains
 pub record Notes : Type 0 where

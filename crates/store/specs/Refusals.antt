@@ -1,7 +1,6 @@
 -- Refusals by their numbers.
 -- Assumes nothing.
 use Rattle.std.specs.Prelude.{ℕ, Some, None, Ok, Err, Option, Result}
-use Rattle.store.specs.declared.faults.Fault.{Fault}
 use Rattle.store.specs.declared.faults.Refusal.{Refusal}
 use Rattle.store.specs.declared.faults.Refusal.TheVariants.{Shut, NotStream, PastLength, TooLong, NoRoom, DanglingPointer, SharedPointer, TableOverRoot, BadMinifat, BadRoot, BadStream, SharedHead, BadImage, NotHead, PastEnd, BadCount, NoEntry}
 use Rattle.store.specs.declared.faults.StoreFault.{StoreFault}

@@ -1,13 +1,14 @@
 -- Assumes nothing.
-use Rattle.std.proofs.Common.{◌≡◌, ℕ, ◌-◌, Bool, true, false, List, length, take, drop, codes, Decides, Option, sym, ap, ◌∙◌}
+use Rattle.std.proofs.Common.{◌≡◌, ℕ, ◌-◌, Bool, true, false, List, length, take, drop, codes, Option, sym, ap, ◌∙◌}
+use Rattle.std.specs.Str.{bytes_eq}
 use Rattle.std.proofs.lemmas.List.{take_rest}
 use Rattle.script.proofs.Names.{not_same}
 use Rattle.script.specs.Words.{numeral, hexed, number_of}
 use Rattle.script.proofs.number.Goals as goal
 
 -- t is the word as bytes
-module _ (w t : List ℕ) (same : t ≡ w) (d e : Bool) (end : Decides d (w ≡ codes "END")) (no_end : d ≡ false)
-    (free : Decides e (w ≡ codes "FREE")) (no-free : e ≡ false) (o : Option ℕ) where
+module _ (w t : List ℕ) (same : t ≡ w) (d e : Bool) (end : d ≡ bytes_eq w (codes "END")) (no_end : d ≡ false)
+    (free : e ≡ bytes_eq w (codes "FREE")) (no-free : e ≡ false) (o : Option ℕ) where
   hex : true ≡ hexed t → o ≡ numeral 16 (take (length t - 2) (drop 2 t)) → o ≡ number_of w
   hex h i =
       rw (not_same w _ d end no_end, not_same w _ e free no-free, sym (rw same at h)) (rw same at (i ∙ ap (numeral 16) (take_rest t 2)))

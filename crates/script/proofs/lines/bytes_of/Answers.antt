@@ -1,6 +1,7 @@
 -- Assumes nothing.
-use Rattle.std.proofs.Common.{◌≡◌, ℕ, ◌-◌, ◌≤◌, Bool, false, List, [], ◌∷◌, ◌++◌, length, get_or, take, drop, Some, None, vec_items, codes, Decides, Option, sym, refl, ap, ◌∙◌, arith}
+use Rattle.std.proofs.Common.{◌≡◌, ℕ, ◌-◌, ◌≤◌, Bool, false, List, [], ◌∷◌, ◌++◌, length, get_or, take, drop, Some, None, vec_items, codes, Option, sym, refl, ap, ◌∙◌, arith}
 use Rattle.std.specs.Option.{option_map}
+use Rattle.std.specs.Str.{bytes_eq}
 use Rattle.std.proofs.lemmas.List.{append_assoc, take_rest}
 use Rattle.script.proofs.Names.{not_same}
 use Rattle.script.specs.Lines.{joined, pairs, bytes_of}
@@ -33,7 +34,7 @@ stop : (rest xs : List ℕ) (t : Option (List ℕ)) → 2 ≤ length rest → No
 stop rest xs t l e inv = ap (λ o. behind xs (joined o (pairs (drop 2 rest)))) e ∙ sym (ap (behind xs) (pairs-more rest l)) ∙ inv
 
 -- a word that is no - is pairs; t is the word as bytes
-of_pairs : (w t : List ℕ) (r : Bool) → t ≡ w → Decides r (w ≡ codes "-") → r ≡ false → pairs t ≡ bytes_of w
+of_pairs : (w t : List ℕ) (r : Bool) → t ≡ w → r ≡ bytes_eq w (codes "-") → r ≡ false → pairs t ≡ bytes_of w
 of_pairs w t r same d n = ap pairs same ∙ rw (not_same w (codes "-") r d n)
 
 pub returns-in-None : goal.returns-in-None
@@ -44,6 +45,6 @@ returns-in-None c =
 pub loop-rest-preserved : goal.loop-rest-preserved
 loop-rest-preserved c =
     let rest = c.loop-rest.rest.now in
-    ap (λ xs. behind xs (pairs (take (length rest - 2) (drop 2 rest)))) c.in_ok-push.ensures.items
+    ap (λ xs. behind xs (pairs (take (length rest - 2) (drop 2 rest)))) c.in_ok-push-in-Some.ensures.items
     ∙ ap (λ t. behind (vec_items c.loop-rest.all ++ c.in-Some.byte ∷ []) (pairs t)) (take_rest rest 2)
     ∙ step rest (vec_items c.loop-rest.all) _ _ (grind arith) c.in-Some.ensures c.loop-rest.invariant

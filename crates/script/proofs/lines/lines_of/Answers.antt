@@ -43,4 +43,4 @@ returns c =
     let ls = map (λ x. x.now) (vec_items c.loop-i.all) in
     passed lines_after text c.loop-i.i c.loop-i.start ls c.loop-i.invariant (omega (arith, ap length c.as_bytes-byte-items.ensures.value))
     _ _ refl
-    (ap (map (λ x. x.now)) c.in_ok-push-2.ensures.items ∙ map_push (λ x. x.now) _ _ ∙ ap (λ v. ls ++ v ∷ []) c.range-from.ensures.value)
+    (ap (map (λ x. x.now)) c.in_ok-push-2.ensures.items ∙ map_push (λ x. x.now) _ _ ∙ ap (λ v. ls ++ v ∷ []) c.range_from.ensures.value)

@@ -82,4 +82,4 @@ returns c =
     let line = c.args.line.now in
     let ws = map (λ x. x.now) (vec_items c.loop-i.all) in
     passed words_after line c.loop-i.i c.loop-i.start ws c.loop-i.invariant (omega (arith, ap length c.as_bytes-byte-items.ensures.value))
-    _ _ refl (c.in_ok-close-2.ensures ∙ ap (λ v. ws ++ closed v) c.range-from.ensures.value)
+    _ _ refl (c.in_ok-close-2.ensures ∙ ap (λ v. ws ++ closed v) c.range_from.ensures.value)
