@@ -1,6 +1,6 @@
 -- `take`, `drop` and `laid` of lists put together: each is shown by its length and place by place.
 -- Assumes nothing.
-use Rattle.std.proofs.Common.{◌≡◌, ℕ, ◌+◌, ◌-◌, ◌*◌, ◌≤◌, List, [], ◌++◌, length, take, drop, sym, ap, ◌∙◌, arith, rules}
+use Rattle.std.proofs.Common.{◌≡◌, ℕ, ◌+◌, ◌-◌, ◌*◌, ◌≤◌, List, [], ◌++◌, length, take, drop, ◌∙◌, arith, rules}
 use Rattle.store.specs.Meaning.{laid}
 use Rattle.chain.specs.Units.{cell}
 use Rattle.std.proofs.lemmas.List.{drop-drop, places, same_lists}

@@ -1,7 +1,7 @@
 -- The units of a chain given back one after the other, from its head on.
 -- Assumes nothing.
-use Rattle.std.proofs.Common.{◌≡◌, ℕ, suc, ◌+◌, ◌-◌, ◌<◌, ◌≤◌, ◌≢◌, List, [], ◌∷◌, ◌++◌, length, Some, None, Option, unwrap_or, sym, refl, ap, ◌∙◌, inl, inr, arith}
-use Rattle.links.specs.Links.{FREE, END, POINTERS, at, In, Path, Head}
+use Rattle.std.proofs.Common.{◌≡◌, ℕ, suc, ◌+◌, ◌-◌, ◌<◌, ◌≤◌, ◌≢◌, List, [], ◌∷◌, length, Some, None, Option, unwrap_or, sym, refl, ap, ◌∙◌, inl, inr, arith}
+use Rattle.links.specs.Links.{FREE, POINTERS, at, In, Path, Head}
 use Rattle.links.specs.Chains.{Wrote, Wiping}
 use Rattle.links.specs.Walk.{chain_of}
 use Rattle.links.proofs.Counts.{inside}

@@ -1,21 +1,21 @@
 -- What a change of links and of one unit means for the chains.
 -- Assumes nothing.
-use Rattle.std.proofs.Common.{◌≡◌, ℕ, zero, suc, ◌+◌, ◌-◌, ◌*◌, ◌<◌, ◌≤◌, eqb, ltb, ◌≢◌, ◌⊎◌, ◌↔◌, List, [], ◌∷◌, ◌++◌, length, replicate, Some, None, Option, unwrap_or, sym, refl, ap, ◌∙◌, inl, inr, ⊎_elim, append-nil, suc-mul, zero-mul, arith}
+use Rattle.std.proofs.Common.{◌≡◌, ℕ, ◌-◌, ◌*◌, ◌<◌, eqb, ◌≢◌, ◌⊎◌, ◌↔◌, List, [], ◌∷◌, ◌++◌, length, replicate, Some, None, Option, unwrap_or, sym, refl, ap, ◌∙◌, inl, inr, ⊎_elim, append-nil, suc-mul, zero-mul, arith}
 use mathlib.Core.Path.{fun_ext}
 use Rattle.std.specs.List.{flat_map}
 use Rattle.std.specs.Map.{update}
 use Rattle.std.proofs.lemmas.List.{flat_map_more}
 use Rattle.std.proofs.lemmas.Map.{update_here, update_apart}
-use Rattle.std.proofs.lemmas.Bool.{cases_eq, lt-ltb, le-ltb}
+use Rattle.std.proofs.lemmas.Bool.{cases_eq, lt-ltb}
 use Rattle.links.specs.Links.{FREE, at, In, Head}
 use Rattle.links.specs.Chains.{Taken, Extended}
 use Rattle.links.specs.Walk.{chain_of}
-use Rattle.links.proofs.Members.{in_right, in_left}
+use Rattle.links.proofs.Members.{in_right}
 use Rattle.links.proofs.Paths.{same_head, starts, used}
 use Rattle.links.proofs.Traces.{chain_head}
 use Rattle.store.specs.Meaning.{Store, bytes_of, zeros, with_chain}
-use Rattle.chain.specs.Units.{cell, content, chains_of}
-use Rattle.chain.specs.Webs.{Web, Woven, Beside, Took, Behind, EndsWith, path_of, viewed, stored}
+use Rattle.chain.specs.Units.{cell, content}
+use Rattle.chain.specs.Webs.{Web, Woven, Beside, Took, Behind, EndsWith, path_of, stored}
 use Rattle.chain.proofs.Joined.{joined_same}
 
 same_option : (o p : Option (List ℕ)) → ((qs : List ℕ) → (o ≡ Some qs) ↔ (p ≡ Some qs)) → o ≡ p

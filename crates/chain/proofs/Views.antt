@@ -1,6 +1,6 @@
 -- The same at a view: where a cursor stands, what a piece is, and writes one after another.
 -- Assumes nothing.
-use Rattle.std.proofs.Common.{◌≡◌, ℕ, suc, ◌+◌, ◌-◌, ◌*◌, ◌<◌, ◌≤◌, List, [], ◌∷◌, ◌++◌, length, get_or, take, drop, sym, refl, ap, ◌∙◌, add-mul, lt_of_mul-lt-mul_right, zero-mul, arith}
+use Rattle.std.proofs.Common.{◌≡◌, ℕ, ◌+◌, ◌-◌, ◌*◌, ◌<◌, ◌≤◌, List, [], ◌++◌, length, get_or, take, drop, sym, refl, ap, ◌∙◌, add-mul, lt_of_mul-lt-mul_right, zero-mul, arith}
 use Rattle.std.proofs.lemmas.List.{length-take-le}
 use Rattle.links.specs.Links.{In}
 use Rattle.store.specs.Meaning.{laid}

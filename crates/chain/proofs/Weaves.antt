@@ -3,7 +3,6 @@
 use Rattle.std.proofs.Common.{◌≡◌, ℕ, zero, suc, ◌+◌, ◌*◌, ◌/◌, ◌<◌, ◌≤◌, ◌≢◌, List, [], ◌∷◌, length, get_or, Some, None, sum_by, count_by, Option, unwrap_or, sym, refl, ap, ◌∙◌, mul-div_cancel, arith}
 use mathlib.Core.Path.{fun_ext}
 use native.Mathlib.Nat.{zero-div}
-use Rattle.std.specs.Option.{option_map}
 use Rattle.std.specs.List.{flat_map}
 use Rattle.links.specs.Links.{FREE, free, at, In, Apart, Path, Head}
 use Rattle.links.specs.Walk.{chain_of, surveyed, reach}
@@ -12,7 +11,7 @@ use Rattle.links.proofs.Counts.{Parted, parted_within}
 use Rattle.links.proofs.Paths.{no_repeat, used, starts, same_head}
 use Rattle.links.proofs.Traces.{chain_head}
 use Rattle.store.specs.Meaning.{bytes_of, units_of}
-use Rattle.chain.specs.Units.{View, Whole, cell, content}
+use Rattle.chain.specs.Units.{Whole, cell, content}
 use Rattle.chain.specs.Webs.{Web, Woven, path_of, viewed, stored}
 use Rattle.chain.proofs.Joined.{length_units, length-cell}
 use Rattle.chain.proofs.Releases.{path_head}

@@ -1,6 +1,6 @@
 -- A store whose chain of one head is set, set again, and lengthened by zeros.
 -- Assumes nothing.
-use Rattle.std.proofs.Common.{◌≡◌, ℕ, suc, ◌+◌, ◌-◌, ◌*◌, eqb, List, [], ◌++◌, replicate, Some, None, Option, unwrap_or, sym, ap, ◌∙◌, ⊎_elim, append_assoc, append-nil, add-mul, zero-mul, arith}
+use Rattle.std.proofs.Common.{◌≡◌, ℕ, suc, ◌+◌, ◌*◌, eqb, List, [], ◌++◌, replicate, Some, Option, unwrap_or, sym, ap, ◌∙◌, ⊎_elim, append_assoc, append-nil, add-mul, zero-mul, arith}
 use mathlib.Core.Path.{fun_ext}
 use Rattle.std.specs.Map.{update}
 use Rattle.std.proofs.lemmas.List.{replicate-append-replicate}

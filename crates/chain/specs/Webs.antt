@@ -1,9 +1,9 @@
 -- Units that are linked by a table, and what taking and giving back a unit do to them.
 -- Assumes nothing.
-use Rattle.std.specs.Prelude.{◌≡◌, ℕ, zero, suc, ◌+◌, ◌-◌, ◌*◌, ◌≤◌, cond, ◌≢◌, List, [], ◌∷◌, ◌++◌, length, replicate, Option, nat_lt, slice_set}
+use Rattle.std.specs.Prelude.{◌≡◌, ℕ, zero, suc, ◌+◌, ◌-◌, ◌*◌, ◌≤◌, cond, ◌≢◌, List, [], ◌∷◌, ◌++◌, length, replicate, nat_lt, slice_set}
 use Rattle.std.specs.Option.{unwrap_or}
 use Rattle.links.specs.Links.{FREE, END, at, Checked, Head}
-use Rattle.links.specs.Chains.{Taken, Extended}
+use Rattle.links.specs.Chains.{Extended}
 use Rattle.links.specs.Walk.{chain_of}
 use Rattle.store.specs.Meaning.{Store, Notes}
 use Rattle.chain.specs.Units.{View, cell, chains_of}

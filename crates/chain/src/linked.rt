@@ -77,13 +77,13 @@ pub trait Linked {
 // once they have gone along the chain and have so many units ready.
 pub fn lengthen<S: Linked>(s: &mut S, head: u32, last: u32, count: u32)
     requires sound { S.Linked.sound s.old }
-    requires ready { count ≤ (web s.old).ready }
-    requires room { count ≤ (web s.old).room }
-    requires ends { (es : List ℕ) × EndsWith (web s.old) head last es }
+    requires ready { count ≤ (S.Linked.web s.old).ready }
+    requires room { count ≤ (S.Linked.web s.old).room }
+    requires ends { (es : List ℕ) × EndsWith (S.Linked.web s.old) head last es }
     ensures sound { S.Linked.sound s.new }
     ensures keeps { S.Linked.keeps s.old → S.Linked.keeps s.new }
-    ensures left { web s.new ≡ lengthened S.Linked.next S.Linked.put count (web s.old) last }
-    ensures means { stored (web s.new) ≡ with_chain (stored (web s.old)) head (Some (bytes_of (stored (web s.old)) head ++ zeros (stored (web s.old)) count)) ((web s.old).room - count) }
+    ensures left { S.Linked.web s.new ≡ lengthened S.Linked.next S.Linked.put count (S.Linked.web s.old) last }
+    ensures means { stored (S.Linked.web s.new) ≡ with_chain (stored (S.Linked.web s.old)) head (Some (bytes_of (stored (S.Linked.web s.old)) head ++ zeros (stored (S.Linked.web s.old)) count)) ((S.Linked.web s.old).room - count) }
 {
     let mut end = last;
     for _ in 0..count {
@@ -95,14 +95,14 @@ pub fn lengthen<S: Linked>(s: &mut S, head: u32, last: u32, count: u32)
 pub fn begin<S: Linked>(s: &mut S, count: u32) -> u32
     requires sound { S.Linked.sound s.old }
     requires some { 0 < count }
-    requires ready { count ≤ (web s.old).ready }
-    requires room { count ≤ (web s.old).room }
+    requires ready { count ≤ (S.Linked.web s.old).ready }
+    requires room { count ≤ (S.Linked.web s.old).room }
     ensures sound { S.Linked.sound s.new }
     ensures keeps { S.Linked.keeps s.old → S.Linked.keeps s.new }
-    ensures told { result ≡ S.Linked.next (web s.old) }
-    ensures left { web s.new ≡ lengthened S.Linked.next S.Linked.put (count - 1) (S.Linked.took (web s.old)) result }
-    ensures new { ((stored (web s.old)).chain result ≡ None) × (result ≤ MAX_HEAD) }
-    ensures means { stored (web s.new) ≡ with_chain (stored (web s.old)) result (Some (zeros (stored (web s.old)) count)) ((web s.old).room - count) }
+    ensures told { result ≡ S.Linked.next (S.Linked.web s.old) }
+    ensures left { S.Linked.web s.new ≡ lengthened S.Linked.next S.Linked.put (count - 1) (S.Linked.took (S.Linked.web s.old)) result }
+    ensures new { ((stored (S.Linked.web s.old)).chain result ≡ None) × (result ≤ MAX_HEAD) }
+    ensures means { stored (S.Linked.web s.new) ≡ with_chain (stored (S.Linked.web s.old)) result (Some (zeros (stored (S.Linked.web s.old)) count)) ((S.Linked.web s.old).room - count) }
 {
     let head = s.take();
     lengthen(s, head, head, count - 1);
@@ -113,11 +113,11 @@ pub fn begin<S: Linked>(s: &mut S, count: u32) -> u32
 pub fn release<S: Linked>(s: &mut S, head: u32, units: u32)
     requires sound { S.Linked.sound s.old }
     requires some { 0 < units }
-    requires units { units ≡ length (path_of (web s.old).links head) }
+    requires units { units ≡ length (path_of (S.Linked.web s.old).links head) }
     ensures sound { S.Linked.sound s.new }
     ensures keeps { S.Linked.keeps s.old → S.Linked.keeps s.new }
-    ensures left { web s.new ≡ released S.Linked.gave units (web s.old) head }
-    ensures means { stored (web s.new) ≡ with_chain (stored (web s.old)) head None ((web s.old).room + units) }
+    ensures left { S.Linked.web s.new ≡ released S.Linked.gave units (S.Linked.web s.old) head }
+    ensures means { stored (S.Linked.web s.new) ≡ with_chain (stored (S.Linked.web s.old)) head None ((S.Linked.web s.old).room + units) }
 {
     let mut place = head;
     for _ in 0..units {
@@ -131,12 +131,12 @@ pub fn cut<S: Linked>(s: &mut S, head: u32, place: u32, keep: u32, units: u32)
     requires sound { S.Linked.sound s.old }
     requires some { 0 < keep }
     requires fewer { keep ≤ units }
-    requires units { units ≡ length (path_of (web s.old).links head) }
-    requires place { place ≡ slice_index (path_of (web s.old).links head) (keep - 1) }
+    requires units { units ≡ length (path_of (S.Linked.web s.old).links head) }
+    requires place { place ≡ slice_index (path_of (S.Linked.web s.old).links head) (keep - 1) }
     ensures sound { S.Linked.sound s.new }
     ensures keeps { S.Linked.keeps s.old → S.Linked.keeps s.new }
-    ensures left { web s.new ≡ shortened S.Linked.ended S.Linked.gave keep units (web s.old) place }
-    ensures means { stored (web s.new) ≡ with_chain (stored (web s.old)) head (Some (take (keep * (web s.old).unit) (bytes_of (stored (web s.old)) head))) ((web s.old).room + (units - keep)) }
+    ensures left { S.Linked.web s.new ≡ shortened S.Linked.ended S.Linked.gave keep units (S.Linked.web s.old) place }
+    ensures means { stored (S.Linked.web s.new) ≡ with_chain (stored (S.Linked.web s.old)) head (Some (take (keep * (S.Linked.web s.old).unit) (bytes_of (stored (S.Linked.web s.old)) head))) ((S.Linked.web s.old).room + (units - keep)) }
 {
     if keep == units {
         return;

@@ -58,13 +58,13 @@ pub struct Cursor {
 // On to the next unit of the chain.
 fn forward<S: Units>(s: &mut S, c: Cursor) -> Cursor
     requires sound { S.Units.sound s.old }
-    requires on { On (view s.old) c.head c.at c }
-    requires past { (view s.old).unit ≤ c.off }
-    requires more { c.at + c.done < length (content (view s.old) c.head) }
+    requires on { On (S.Units.view s.old) c.head c.at c }
+    requires past { (S.Units.view s.old).unit ≤ c.off }
+    requires more { c.at + c.done < length (content (S.Units.view s.old) c.head) }
     requires fits { c.at + c.done < 2 ^ 32 }
     ensures sound { S.Units.sound s.new }
-    ensures same { view s.new ≡ view s.old }
-    ensures on { On (view s.old) c.head c.at result }
+    ensures same { S.Units.view s.new ≡ S.Units.view s.old }
+    ensures on { On (S.Units.view s.old) c.head c.at result }
     ensures less { result.off < c.off }
     ensures done { result.done ≡ c.done }
 {
@@ -81,17 +81,17 @@ fn forward<S: Units>(s: &mut S, c: Cursor) -> Cursor
 // One piece, or a step to the next unit.
 fn read_step<S: Units>(s: &mut S, c: Cursor, out: &mut [u8]) -> Cursor
     requires sound { S.Units.sound s.old }
-    requires on { On (view s.old) c.head c.at c }
+    requires on { On (S.Units.view s.old) c.head c.at c }
     requires more { c.done < length out.old }
-    requires whole { c.at + length out.old ≤ length (content (view s.old) c.head) }
+    requires whole { c.at + length out.old ≤ length (content (S.Units.view s.old) c.head) }
     requires fits { c.at + length out.old < 2 ^ 32 }
-    requires read { take c.done out.old ≡ take c.done (drop c.at (content (view s.old) c.head)) }
+    requires read { take c.done out.old ≡ take c.done (drop c.at (content (S.Units.view s.old) c.head)) }
     ensures sound { S.Units.sound s.new }
-    ensures same { view s.new ≡ view s.old }
-    ensures on { On (view s.old) c.head c.at result }
+    ensures same { S.Units.view s.new ≡ S.Units.view s.old }
+    ensures on { On (S.Units.view s.old) c.head c.at result }
     ensures less { 2 * (length out.old - result.done) + result.off < 2 * (length out.old - c.done) + c.off }
     ensures done { result.done ≤ length out.old }
-    ensures read { take result.done out.new ≡ take result.done (drop c.at (content (view s.old) c.head)) }
+    ensures read { take result.done out.new ≡ take result.done (drop c.at (content (S.Units.view s.old) c.head)) }
 {
     let unit = s.unit_len();
     if c.off >= unit {
@@ -111,11 +111,11 @@ fn read_step<S: Units>(s: &mut S, c: Cursor, out: &mut [u8]) -> Cursor
 // has these bytes.
 pub fn read_chain<S: Units>(s: &mut S, head: u32, at: usize, out: &mut [u8])
     requires sound { S.Units.sound s.old }
-    requires whole { at + length out.old ≤ length (content (view s.old) head) }
+    requires whole { at + length out.old ≤ length (content (S.Units.view s.old) head) }
     requires fits { at + length out.old < 2 ^ 32 }
     ensures sound { S.Units.sound s.new }
-    ensures same { view s.new ≡ view s.old }
-    ensures read { out.new ≡ take (length out.old) (drop at (content (view s.old) head)) }
+    ensures same { S.Units.view s.new ≡ S.Units.view s.old }
+    ensures read { out.new ≡ take (length out.old) (drop at (content (S.Units.view s.old) head)) }
 {
     let mut c = Cursor {
         head,
@@ -133,15 +133,15 @@ pub fn read_chain<S: Units>(s: &mut S, head: u32, at: usize, out: &mut [u8])
 // One piece, or a step to the next unit.
 fn write_step<S: Units>(s: &mut S, c: Cursor, src: &[u8]) -> Cursor
     requires sound { S.Units.sound s.old }
-    requires on { On (view s.old) c.head c.at c }
+    requires on { On (S.Units.view s.old) c.head c.at c }
     requires more { c.done < length src.now }
-    requires whole { c.at + length src.now ≤ length (content (view s.old) c.head) }
+    requires whole { c.at + length src.now ≤ length (content (S.Units.view s.old) c.head) }
     requires fits { c.at + length src.now < 2 ^ 32 }
     ensures sound { S.Units.sound s.new }
-    ensures on { On (view s.new) c.head c.at result }
+    ensures on { On (S.Units.view s.new) c.head c.at result }
     ensures less { 2 * (length src.now - result.done) + result.off < 2 * (length src.now - c.done) + c.off }
     ensures done { (c.done ≤ result.done) × (result.done ≤ length src.now) }
-    ensures wrote { Wrote (view s.old) (view s.new) c.head (c.at + c.done) (slice_range src.now c.done result.done) }
+    ensures wrote { Wrote (S.Units.view s.old) (S.Units.view s.new) c.head (c.at + c.done) (slice_range src.now c.done result.done) }
 {
     let unit = s.unit_len();
     if c.off >= unit {
@@ -161,10 +161,10 @@ fn write_step<S: Units>(s: &mut S, c: Cursor, src: &[u8]) -> Cursor
 // bytes.
 pub fn write_chain<S: Units>(s: &mut S, head: u32, at: usize, src: &[u8])
     requires sound { S.Units.sound s.old }
-    requires whole { at + length src.now ≤ length (content (view s.old) head) }
+    requires whole { at + length src.now ≤ length (content (S.Units.view s.old) head) }
     requires fits { at + length src.now < 2 ^ 32 }
     ensures sound { S.Units.sound s.new }
-    ensures wrote { Wrote (view s.old) (view s.new) head at src.now }
+    ensures wrote { Wrote (S.Units.view s.old) (S.Units.view s.new) head at src.now }
 {
     let mut c = Cursor {
         head,

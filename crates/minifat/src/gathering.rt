@@ -57,8 +57,8 @@ impl Gathered {
 
 // The links of the first so many blocks of a chain, or the store's refusal of a block.
 pub fn gather<S: ChainStore>(store: &mut S, head: u32, blocks: u32) -> Result<Gathered, StoreFault>
-    ensures told { gathering_in result ≡ answer (due_blocks (meaning store.old) S.ChainStore.layer head blocks) (gathered (all_links (take (blocks * 512) (bytes_of (meaning store.old) head)))) }
-    ensures left { meaning store.new ≡ meaning store.old }
+    ensures told { gathering_in result ≡ answer (due_blocks (S.ChainStore.meaning store.old) S.ChainStore.layer head blocks) (gathered (all_links (take (blocks * 512) (bytes_of (S.ChainStore.meaning store.old) head)))) }
+    ensures left { S.ChainStore.meaning store.new ≡ S.ChainStore.meaning store.old }
 {
     let mut all = Gathered::new();
     for rank in 0..blocks {

@@ -1,5 +1,5 @@
 -- Assumes nothing.
-use Rattle.std.proofs.Common.{◌≡◌, ◌+◌, ◌-◌, ◌<◌, length, take, drop, sym, refl, ap, ◌∙◌, arith, length-drop, length-take, rules}
+use Rattle.std.proofs.Common.{◌≡◌, ◌+◌, ◌-◌, length, take, drop, sym, ◌∙◌, arith, length-drop, length-take, rules}
 use Rattle.chain.proofs.Laid.{read_more}
 use Rattle.chain.proofs.Views.{place_in, slice_here}
 use Rattle.chain.proofs.pieces.read_step.Goals as goal

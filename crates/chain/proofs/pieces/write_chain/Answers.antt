@@ -1,8 +1,7 @@
 -- Assumes nothing.
-use Rattle.std.proofs.Common.{◌≡◌, ◌+◌, ◌≤◌, length, take, arith, rules}
+use Rattle.std.proofs.Common.{◌≡◌, length, take, arith, rules}
 use Rattle.chain.proofs.Views.{on_start, same_size, wrote_none, wrote_turn}
 use Rattle.chain.proofs.pieces.write_chain.Goals as goal
-use Rattle.chain.specs.Units.{Wrote, content}
 use Rattle.std.proofs.lemmas.List.{length-take-le, take_all}
 
 pub loop-c-init : goal.loop-c-init
