@@ -1,12 +1,11 @@
 -- Reading and writing along the chains.
 -- Assumes nothing.
-use Rattle.std.proofs.Common.{◌≡◌, ℕ, ◌+◌, ◌-◌, ◌*◌, ◌<◌, ◌≤◌, Bool, true, false, cond, ltb, leb, ◌≢◌, ◌⊎◌, List, [], ◌∷◌, ◌++◌, length, get_or, take, drop, Some, None, count_by, Option, sym, refl, ap, ◌∙◌, inl, inr, ⊎_elim, arith}
+use Rattle.std.proofs.Common.{◌≡◌, ℕ, ◌+◌, ◌-◌, ◌*◌, ◌<◌, ◌≤◌, true, leb, ◌≢◌, ◌⊎◌, List, [], ◌∷◌, length, get_or, Some, None, count_by, sym, ap, ◌∙◌, inl, inr, ⊎_elim, arith}
 use mathlib.Core.Path.{fun_ext}
-use Rattle.std.proofs.lemmas.List.{nil_from_length}
-use Rattle.std.proofs.lemmas.Bool.{cases_eq, cases_lt, leb-true, leb-false, le-leb, lt-leb, lt-ltb, le-ltb, cond-true, cond-false}
-use Rattle.links.specs.Links.{free, In}
+use Rattle.std.proofs.lemmas.Bool.{cases_eq, cases_lt, leb-true, le-leb, lt-leb, lt-ltb, cond-true}
+use Rattle.links.specs.Links.{free}
 use Rattle.store.specs.Meaning.{Notes, Store, laid, bytes_of, units_of}
-use Rattle.chain.specs.Units.{View, Whole, content, chains_of, put, Wrote}
+use Rattle.chain.specs.Units.{View, Whole, content, Wrote}
 use borrow.Rule.Slice.PartMut.{put_mid}
 use Rattle.chain.proofs.Laid.{laid-put, length-laid}
 use Rattle.chain.proofs.Views.{other_content}
@@ -14,7 +13,7 @@ use Rattle.chain.proofs.Joined.{in_get_d}
 use Rattle.cells.specs.declared.Cells.{Cells}
 use Rattle.cells.specs.Meant.{meant, within, overlaid}
 use Rattle.cells.specs.Noted.{unit_at, found, path}
-use Rattle.cells.specs.Stored.{viewed, stored}
+use Rattle.cells.specs.Stored.{viewed}
 use Rattle.cells.proofs.Changes.{is}
 use Rattle.cells.proofs.Paths.{Kept, kept, sound_of, path_short}
 use Rattle.cells.proofs.Seeks.{unit_is, unit_below}

@@ -1,21 +1,21 @@
 -- The calls that begin a chain, lengthen it by a unit and shorten it by one.
 -- Assumes nothing.
-use Rattle.std.proofs.Common.{◌≡◌, ℕ, suc, ◌+◌, ◌-◌, ◌*◌, ◌<◌, ◌≤◌, Bool, true, false, cond, ◌&&◌, eqb, ltb, ◌≢◌, ◌⊎◌, List, [], ◌∷◌, ◌++◌, length, get_or, take, set, is_some, Some, None, count_by, Option, unwrap_or, sym, refl, ap, ◌∙◌, inl, inr, ⊎_elim, arith}
+use Rattle.std.proofs.Common.{◌≡◌, ℕ, suc, ◌+◌, ◌-◌, ◌<◌, ◌≤◌, Bool, true, false, cond, ltb, ◌≢◌, List, [], ◌∷◌, ◌++◌, length, get_or, take, set, is_some, Some, None, count_by, unwrap_or, sym, refl, ap, ◌∙◌, ⊎_elim, arith}
 use Rattle.std.proofs.lemmas.List.{take_more, take_all}
 use Rattle.std.proofs.lemmas.List.Sums.{sum_by-cons}
-use Rattle.std.proofs.lemmas.Bool.{cases_lt, lt-ltb, le-ltb, eq-eqb, ne_eqb, and_from, and_left, and_right, or_left, or_right, cond-true}
-use Rattle.links.specs.Links.{FREE, free, at, In}
-use Rattle.store.specs.Meaning.{Notes, Store, bytes_of, zeros, with_chain}
-use Rattle.chain.specs.Units.{content, chains_of}
+use Rattle.std.proofs.lemmas.Bool.{cases_lt, lt-ltb, le-ltb, eq-eqb, ne_eqb, and_from, or_left, or_right, cond-true}
+use Rattle.links.specs.Links.{FREE, free, at}
+use Rattle.store.specs.Meaning.{Notes, Store, zeros, with_chain}
+use Rattle.chain.specs.Units.{content}
 use Rattle.chain.proofs.Joined.{in_get_d}
 use Rattle.cells.specs.declared.Cells.{Cells}
 use Rattle.cells.specs.Meant.{meant, Starts}
 use Rattle.cells.specs.Noted.{unit_at, lowest_free, found, path, joins}
 use Rattle.cells.specs.Stored.{viewed, stored, joined_to, given, gives, taken_back}
 use Rattle.cells.proofs.Changes.{is, part_sound}
-use Rattle.cells.proofs.Paths.{Sound, Kept, kept, sound_of}
+use Rattle.cells.proofs.Paths.{Kept, kept, sound_of}
 use Rattle.cells.proofs.Seeks.{free-found, free-none, found_some, found_none, unit_below, unit_is}
-use Rattle.cells.proofs.Stores.{head_small, notes_head, path_first, chain_some, chain_none, bytes_content, join_room, part_stored, one_free}
+use Rattle.cells.proofs.Stores.{head_small, notes_head, path_first, chain_some, chain_none, part_stored, one_free}
 
 pub some_found : (n u w : ℕ) → Some w ≡ found n u → (w ≡ u) × (u < n)
 some_found n u w e = ⊎_elim

@@ -1,11 +1,11 @@
 -- The units of a head's chain: there is one list of them, and it is the one that is computed.
 -- Assumes nothing.
-use Rattle.std.proofs.Common.{◌≡◌, ℕ, zero, suc, ◌+◌, ◌-◌, ◌<◌, ◌≤◌, Bool, true, false, cond, ltb, ◌≢◌, ◌⊎◌, List, [], ◌∷◌, ◌++◌, length, get_or, replicate, is_some, count_by, Option, sym, refl, ap, ◌∙◌, inl, inr, ⊎_elim, arith}
+use Rattle.std.proofs.Common.{◌≡◌, ℕ, zero, suc, ◌+◌, ◌-◌, ◌<◌, ◌≤◌, Bool, true, false, cond, ltb, ◌≢◌, ◌⊎◌, List, [], ◌∷◌, ◌++◌, length, get_or, replicate, is_some, Option, sym, refl, ap, ◌∙◌, inl, inr, ⊎_elim, arith}
 use Rattle.std.proofs.lemmas.List.{ext_get_or, get_or-replicate, get_or_past, length_push, get_or_push, get_or_append_left}
 use Rattle.std.proofs.lemmas.List.Sums.{count_by-le-length}
-use Rattle.std.proofs.lemmas.Bool.{cases_eq, cases_lt, cases_order, false≢true, ltb-true, ltb-false, lt-ltb, le-ltb, cond-true, cond-false}
+use Rattle.std.proofs.lemmas.Bool.{cases_lt, cases_order, false≢true, lt-ltb, le-ltb, cond-true, cond-false}
 use Rattle.links.specs.Links.{FREE, live, at, In, Apart}
-use Rattle.links.proofs.Counts.{inside, live_count}
+use Rattle.links.proofs.Counts.{live_count}
 use Rattle.cells.specs.declared.Cells.{Cells}
 use Rattle.cells.specs.Noted.{unit_at, found, run, path, Unique, Down, Named}
 use Rattle.cells.proofs.Seeks.{unit_found, unit_below, found_some, found_none}
@@ -18,11 +18,16 @@ pub record Sound (H R : List ℕ) : Type 0 where
   pub named : Named H R
 
 -- the invariant of the struct, as it is owed
-abbrev pub Kept : List ℕ → List ℕ → List ℕ → Type 0
-Kept H R B = (length H ≡ 64) × ((length R ≡ 64) × ((length B ≡ 32768) × (Unique H R × (Down H R × (Named H R × Unit {0})))))
+pub record Kept (H R B : List ℕ) : Type 0 where
+  pub headed : length H ≡ 64
+  pub ranked : length R ≡ 64
+  pub filled : length B ≡ 32768
+  pub unique : Unique H R
+  pub down : Down H R
+  pub named : Named H R
 
 pub kept : (H R B : List ℕ) → Sound H R → length B ≡ 32768 → Kept H R B
-kept H R B s f = (s.heads, (s.ranks, (f, (s.unique, (s.down, (s.named, tt))))))
+kept H R B s f = record { headed = s.heads; ranked = s.ranks; filled = f; unique = s.unique; down = s.down; named = s.named }
 
 pub sound_of : (c : Cells) → Sound c.heads c.ranks
 sound_of c = record { heads = c.headed; ranks = c.ranked; unique = c.unique; down = c.down; named = c.named }

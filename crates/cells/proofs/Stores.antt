@@ -1,23 +1,24 @@
 -- The units as a store of chains.
 -- Assumes nothing.
-use Rattle.std.proofs.Common.{◌≡◌, ℕ, zero, suc, ◌+◌, ◌-◌, ◌*◌, ◌/◌, ◌<◌, ◌≤◌, Bool, true, false, cond, ◌&&◌, eqb, ltb, ◌≢◌, ◌⊎◌, List, [], ◌∷◌, ◌++◌, length, get_or, take, drop, set, replicate, is_some, Some, None, sum_by, count_by, Option, unwrap_or, sym, refl, ap, ◌∙◌, inl, inr, ⊎_elim, mul-div_cancel, arith, rules}
+use Rattle.std.proofs.Common.{◌≡◌, ℕ, ◌+◌, ◌-◌, ◌*◌, ◌/◌, ◌<◌, ◌≤◌, cond, eqb, ◌≢◌, List, [], ◌∷◌, ◌++◌, length, get_or, take, set, replicate, Some, None, sum_by, count_by, Option, unwrap_or, sym, refl, ap, ◌∙◌, inl, ⊎_elim, mul-div_cancel, arith, rules}
 use mathlib.Core.Path.{fun_ext}
 use Rattle.std.specs.List.{flat_map}
 use Rattle.std.specs.Map.{update}
+use Rattle.std.proofs.lemmas.Map.{update_here, update_apart}
 use Rattle.std.proofs.lemmas.List.{nil_from_length, flat_map_more, same_lists, places, length_push, take_at}
 use Rattle.std.proofs.lemmas.List.Sums.{sum_by-cons, sum_by-set, get_or-le-sum_by}
 use Rattle.std.proofs.lemmas.Bool.{cases_eq, cases_lt, eq-eqb, ne_eqb, lt-ltb, le-ltb, cond-true, cond-false}
 use Rattle.links.specs.Links.{FREE, free, at, In, Apart}
 use Rattle.links.proofs.Members.{in_left, in_right}
 use Rattle.links.proofs.Counts.{inside, Parted, parted_within}
-use Rattle.store.specs.Meaning.{Store, Notes, Lawful, Chain, laid, units_of, bytes_of, zeros, with_chain}
+use Rattle.store.specs.Meaning.{Notes, Lawful, Chain, laid, units_of, bytes_of, zeros, with_chain}
 use Rattle.chain.specs.Units.{View, Whole, cell, content, chains_of}
 use Rattle.chain.proofs.Joined.{in_get_d, length_units, joined_same, length-cell, cell_same, cell_other}
 use Rattle.chain.proofs.Views.{length-content}
-use Rattle.cells.specs.Noted.{path, Unique, Down, Named}
-use Rattle.cells.specs.Stored.{viewed, stored, given, gives, taken_back, lengthened, shortened, but_last}
-use Rattle.cells.proofs.Paths.{Sound, IsPath, fresh-path, noted_apart, noted_heads}
-use Rattle.cells.proofs.Changes.{is, path_past, join_sound, join_path, join_others, part_path, part_others}
+use Rattle.cells.specs.Noted.{path}
+use Rattle.cells.specs.Stored.{viewed, stored, taken_back, but_last}
+use Rattle.cells.proofs.Paths.{Sound, fresh-path, noted_apart, noted_heads}
+use Rattle.cells.proofs.Changes.{is, path_past, join_path, join_others, part_path, part_others}
 
 pub fresh_chain : (R B : List ℕ) (h : ℕ) → chains_of (viewed (replicate 64 FREE) R B) h ≡ None
 fresh_chain R B h = rw (fresh-path R h)
@@ -119,8 +120,8 @@ stored_as H R B G Q A n h room w r here else = rw (fun_ext each, r)
   where
     each : (k : ℕ) → (stored G Q A n).chain k ≡ update eqb (stored H R B n).chain h w k
     each k = ⊎_elim
-        (λ (e : k ≡ h). rw e (here ∙ sym (cond-true _ _ _ (eq-eqb h h refl))))
-        (λ d. else k d ∙ sym (cond-false _ _ _ (ne_eqb k h d))) (cases_eq k h)
+        (λ (e : k ≡ h). rw e (here ∙ sym (update_here (stored H R B n).chain h w)))
+        (λ d. else k d ∙ sym (update_apart (stored H R B n).chain h w k d)) (cases_eq k h)
 
 -- equal paths over equal bytes are equal chains
 same_chain : (H R B G Q A : List ℕ) (n : Notes) (k : ℕ) → path G Q k ≡ path H R k → ((x : ℕ) → In x (path H R k) → cell 512 A x ≡ cell 512 B x)

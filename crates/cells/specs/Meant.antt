@@ -1,9 +1,9 @@
 -- What the units in memory mean.
 -- Assumes nothing.
-use Rattle.std.specs.Prelude.{◌≡◌, ℕ, ◌+◌, ◌-◌, ◌<◌, ◌≤◌, Bool, true, false, cond, List, length, Some, None, Option, nat_le}
+use Rattle.std.specs.Prelude.{◌≡◌, ℕ, ◌-◌, ◌<◌, Bool, List, length, Some, None, Option, nat_le}
 use Rattle.store.specs.Meaning.{Store, Notes, bytes_of, laid, zeros, with_chain}
 use Rattle.cells.specs.declared.Cells.{Cells}
-use Rattle.cells.specs.Stored.{stored, given, gives, taken_back}
+use Rattle.cells.specs.Stored.{stored}
 
 -- as a store, with any notes
 abbrev pub meant : Cells → Notes → Store

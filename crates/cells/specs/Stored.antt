@@ -1,6 +1,6 @@
 -- What units that note head and rank mean as a store of chains.
 -- Assumes nothing.
-use Rattle.std.specs.Prelude.{ℕ, suc, ◌+◌, ◌-◌, ◌*◌, ◌<◌, Bool, cond, ◌&&◌, List, [], ◌∷◌, ◌++◌, length, take, is_some, Some, None, count_by, Option, nat_lt}
+use Rattle.std.specs.Prelude.{ℕ, ◌+◌, ◌-◌, Bool, cond, ◌&&◌, List, [], ◌∷◌, ◌++◌, length, take, is_some, Some, None, count_by, Option, nat_lt}
 use Rattle.links.specs.Links.{free}
 use Rattle.store.specs.Meaning.{Store, Notes, bytes_of, zeros, with_chain}
 use Rattle.chain.specs.Units.{View, chains_of}

@@ -1,6 +1,6 @@
 -- The calls of linked units, by what the table's calls and the host's leave.
 -- Assumes nothing.
-use Rattle.std.proofs.Common.{◌≡◌, ℕ, ◌+◌, ◌-◌, ◌*◌, ◌%◌, ◌^◌, ◌<◌, ◌≤◌, Bool, true, false, cond, ◌&&◌, eqb, ltb, ◌≢◌, List, [], ◌∷◌, ◌++◌, length, set, Some, None, count_by, Option, sym, refl, ap, ◌∙◌, subst, ⊎_elim, arith}
+use Rattle.std.proofs.Common.{◌≡◌, ℕ, ◌+◌, ◌*◌, ◌%◌, ◌<◌, ◌≤◌, Bool, true, cond, eqb, ltb, List, [], ◌∷◌, length, set, Some, None, count_by, sym, refl, ap, ◌∙◌, subst, arith}
 use Rattle.std.proofs.lemmas.Bool.{lt-ltb, and_from, eq-eqb, ne_eqb, or_left, cond-false}
 use Rattle.links.specs.Links.{END, POINTERS, free, at}
 use Rattle.links.specs.Stack.{has_room, place_after, links_taken, stack_taken, joinable, onward}
@@ -9,9 +9,8 @@ use Rattle.links.proofs.Stacks.{Kept}
 use Rattle.links.proofs.Takings.{kept_taken}
 use Rattle.store.specs.Meaning.{Store, Hosted, Lawful, bytes_of, entered}
 use Rattle.links.specs.Chains.{Taken}
-use Rattle.chain.specs.Webs.{Web, Took, Behind, Ended, Gave}
-use Rattle.rooms.specs.Rooms.{growth}
-use Rattle.mini.specs.Mini.{root_of, stream_at, fat_at, ground_of, Borne, dry, web_of}
+use Rattle.chain.specs.Webs.{Took, Behind, Ended, Gave}
+use Rattle.mini.specs.Mini.{root_of, stream_at, ground_of, Borne, web_of}
 use Rattle.mini.specs.Steps.{rooted, longer_root, link_wrote, wiped_at, occupied, took_mini, put_mini, ended_mini, gave_mini}
 use Rattle.mini.proofs.Figures.{bytes_few}
 use Rattle.mini.proofs.Growths.{dry-one}

@@ -1,15 +1,15 @@
 -- Reading and writing a mini sector through the host, and going on to the next one.
 -- Assumes nothing.
-use Rattle.std.proofs.Common.{◌≡◌, ℕ, ◌+◌, ◌*◌, ◌<◌, ◌≤◌, cond, ltb, ◌≢◌, List, [], ◌∷◌, length, get_or, take, drop, Some, None, sym, refl, ap, ◌∙◌, inl, arith}
+use Rattle.std.proofs.Common.{◌≡◌, ℕ, ◌+◌, ◌*◌, ◌<◌, ◌≤◌, cond, ltb, List, [], ◌∷◌, length, get_or, take, drop, Some, None, sym, refl, ap, ◌∙◌, inl, arith}
 use Rattle.std.specs.List.{slice_get}
 use Rattle.std.proofs.lemmas.Bool.{cond-false, le-ltb}
-use Rattle.links.specs.Links.{FREE, at, In}
+use Rattle.links.specs.Links.{at, In}
 use Rattle.links.proofs.Counts.{inside}
 use Rattle.links.proofs.Lookups.{some_link, no_link}
 use Rattle.links.proofs.Paths.{used}
 use Rattle.store.specs.Refusals.{unless}
 use Rattle.store.specs.Meaning.{Store, Hosted, bytes_of, laid, with_chain, headed, refuse, due_copy, read_into, wrote}
-use Rattle.chain.specs.Units.{View, cell, put}
+use Rattle.chain.specs.Units.{cell, put}
 use Rattle.chain.specs.Webs.{Web, Woven, path_of, viewed}
 use Rattle.chain.proofs.Joined.{in_get_d}
 use Rattle.chain.proofs.Laid.{length-laid, slice_cell}

@@ -1,15 +1,14 @@
 -- What a host tells of mini stream and MiniFAT, and what follows where it bears a table out.
 -- Assumes nothing.
-use Rattle.std.proofs.Common.{◌≡◌, ℕ, ◌+◌, ◌*◌, ◌/◌, ◌%◌, ◌^◌, ◌<◌, ◌≤◌, Bool, true, false, cond, not, ◌&&◌, ◌||◌, eqb, ltb, leb, ◌≢◌, ◌⊎◌, List, [], ◌∷◌, length, get_or, Some, None, Ok, Err, Option, Result, unwrap_or, sym, refl, ap, ◌∙◌, inl, inr, ⊎_elim, mul-le-mul, zero-mul, arith}
+use Rattle.std.proofs.Common.{◌≡◌, ℕ, ◌*◌, ◌/◌, ◌^◌, ◌<◌, ◌≤◌, Bool, true, false, cond, not, ◌&&◌, ◌||◌, eqb, ◌≢◌, ◌⊎◌, List, [], ◌∷◌, length, get_or, Some, None, Ok, Err, Option, unwrap_or, sym, refl, ap, ◌∙◌, inl, inr, ⊎_elim, mul-le-mul, zero-mul, arith}
 use native.Mathlib.Nat.{zero-div}
 use Rattle.std.specs.List.{slice_get}
 use Rattle.std.specs.Option.{option_map}
 use Rattle.std.proofs.lemmas.Bool.{and_parts, and_from, or_cases, or_left, or_right, not-true, eqb-true, eqb-false, eq-eqb, ne_eqb, leb-true, le-leb}
 use Rattle.links.specs.Links.{END}
 use Rattle.store.specs.declared.entries.Entry.{Entry}
-use Rattle.store.specs.declared.faults.StoreFault.{StoreFault}
 use Rattle.rooms.specs.Rooms.{Ground}
-use Rattle.store.specs.Refusals.{Refused, refused_by, told}
+use Rattle.store.specs.Refusals.{Refused}
 use Rattle.store.specs.Meaning.{Store, Lawful, bytes_of, units_of, entry_or, entry_of}
 use Rattle.mini.specs.Mini.{root_of, stream_at, fat_at, count_of, asked_of, fitting, ground_of, grounded, ground_if, Present, Borne}
 use Rattle.mini.specs.declared.Asked.{Asked}

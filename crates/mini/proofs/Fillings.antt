@@ -1,6 +1,6 @@
 -- Sectors of a chain are filled one after the other.
 -- Assumes nothing.
-use Rattle.std.proofs.Common.{◌≡◌, ℕ, suc, ◌+◌, ◌-◌, ◌*◌, ◌<◌, ◌≤◌, List, length, replicate, Some, None, Option, sym, refl, ap, ◌∙◌, add-zero, arith}
+use Rattle.std.proofs.Common.{◌≡◌, ℕ, suc, ◌+◌, ◌-◌, ◌*◌, ◌<◌, ◌≤◌, List, length, replicate, Some, None, Option, refl, ap, ◌∙◌, add-zero, arith}
 use Rattle.store.specs.Refusals.{Refused, unless}
 use Rattle.store.specs.Meaning.{Store, bytes_of, laid, with_chain, due_copy, wrote}
 use Rattle.mini.specs.Adding.{filled}

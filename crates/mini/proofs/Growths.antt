@@ -1,11 +1,11 @@
 -- How many mini sectors can be taken, with and without more sectors of the host.
 -- Assumes nothing.
-use Rattle.std.proofs.Common.{◌≡◌, ℕ, ◌+◌, ◌-◌, ◌*◌, ◌/◌, ◌%◌, ◌<◌, ◌≤◌, Bool, true, false, ◌⊎◌, length, sym, refl, ap, ◌∙◌, inl, inr, ⊎_elim, arith}
+use Rattle.std.proofs.Common.{◌≡◌, ℕ, ◌+◌, ◌-◌, ◌*◌, ◌/◌, ◌<◌, ◌≤◌, ◌⊎◌, inl, inr, ⊎_elim, arith}
 use Rattle.std.proofs.lemmas.Bool.{cases_lt}
-use Rattle.store.specs.Meaning.{Store, Hosted, Lawful, bytes_of, units_of}
-use Rattle.rooms.specs.Rooms.{Ground, up, need, fits, growth, taller, reserved}
-use Rattle.rooms.proofs.Rooms.{Fair, fits_parts, fits_from, fits_down, growth_passes, largest_most, taller_less, reserve_none}
-use Rattle.mini.specs.Mini.{root_of, stream_at, fat_at, ground_of, Borne, dry}
+use Rattle.store.specs.Meaning.{Store, Hosted, Lawful}
+use Rattle.rooms.specs.Rooms.{Ground, up, need, growth, taller}
+use Rattle.rooms.proofs.Rooms.{Fair, fits_parts, fits_from, fits_down, growth_passes, largest_most, taller_less}
+use Rattle.mini.specs.Mini.{stream_at, fat_at, ground_of, Borne, dry}
 use Rattle.mini.proofs.Figures.{whole_units}
 
 -- what can be taken without more sectors can be taken

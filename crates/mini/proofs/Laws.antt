@@ -1,14 +1,13 @@
 -- What always holds of a mini store.
 -- Assumes nothing.
-use Rattle.std.proofs.Common.{◌≡◌, ℕ, ◌+◌, ◌*◌, ◌/◌, ◌<◌, ◌≤◌, Bool, true, false, cond, List, [], ◌∷◌, length, Some, None, sum_by, count_by, Option, unwrap_or, sym, refl, ap, ◌∙◌, subst, ⊎_elim, mul-div_cancel, arith}
+use Rattle.std.proofs.Common.{◌≡◌, ℕ, ◌+◌, ◌*◌, ◌/◌, ◌≤◌, Bool, true, false, List, [], ◌∷◌, length, Some, None, sum_by, Option, unwrap_or, sym, refl, ap, ◌∙◌, ⊎_elim, mul-div_cancel, arith}
 use Rattle.std.proofs.lemmas.List.Sums.{sum_by-cons}
 use Rattle.std.proofs.lemmas.Bool.{cases_lt}
-use Rattle.links.specs.Links.{free, at, Apart}
 use Rattle.links.specs.Held.{links_of}
 use Rattle.links.specs.Walk.{chain_of}
 use Rattle.links.specs.declared.stacked.Stacked.{Stacked}
 use Rattle.links.proofs.Stacks.{Kept, kept_of, few_of}
-use Rattle.store.specs.Meaning.{Store, Lawful, Chain, bytes_of, units_of}
+use Rattle.store.specs.Meaning.{Store, Lawful, Chain}
 use Rattle.chain.specs.Units.{Whole}
 use Rattle.chain.specs.Webs.{Woven, stored, viewed}
 use Rattle.chain.proofs.Weaves.{some_told, none_told, units_within, woven_whole}

@@ -1,6 +1,6 @@
 -- Sectors are added to the MiniFAT and to the mini stream: the mini store means the same, and has more ready.
 -- Assumes nothing.
-use Rattle.std.proofs.Common.{◌≡◌, ℕ, zero, suc, ◌+◌, ◌-◌, ◌*◌, ◌/◌, ◌%◌, ◌<◌, ◌≤◌, Bool, true, false, cond, ◌||◌, eqb, ltb, ◌≢◌, ◌⊎◌, List, [], ◌∷◌, ◌++◌, length, take, drop, replicate, Some, None, Ok, Err, Option, Result, unwrap_or, sym, refl, ap, ◌∙◌, subst, inl, inr, ⊎_elim, append-nil, mod-eq_of_lt, suc-mul, add-mul, zero-mul, mul-div_cancel, arith}
+use Rattle.std.proofs.Common.{◌≡◌, ℕ, zero, suc, ◌+◌, ◌-◌, ◌*◌, ◌/◌, ◌%◌, ◌<◌, ◌≤◌, Bool, true, false, cond, ◌||◌, eqb, ◌≢◌, ◌⊎◌, List, [], ◌++◌, length, drop, replicate, Some, None, Ok, Err, Option, Result, unwrap_or, sym, refl, ap, ◌∙◌, subst, inl, inr, ⊎_elim, append-nil, mod-eq_of_lt, suc-mul, add-mul, zero-mul, mul-div_cancel, arith}
 use mathlib.Core.Path.{fun_ext}
 use Rattle.std.specs.Map.{update}
 use Rattle.std.proofs.lemmas.List.{length-append, length-replicate, replicate-append-replicate, drop_all, length-set}
@@ -9,17 +9,17 @@ use Rattle.std.proofs.lemmas.Bool.{cases_eq, eq-eqb, ne_eqb}
 use Rattle.links.specs.Links.{END}
 use Rattle.store.specs.declared.entries.Entry.{Entry}
 use Rattle.store.specs.Refusals.{Refused, answer, unless}
-use Rattle.store.specs.Meaning.{Store, Notes, Hosted, Lawful, MAX_HEAD, bytes_of, units_of, zeros, laid, with_chain, with_notes, due_begin, due_extend, Begins, extended, wrote, worded, moved}
+use Rattle.store.specs.Meaning.{Store, Hosted, Lawful, MAX_HEAD, bytes_of, units_of, zeros, laid, with_chain, with_notes, Begins, wrote, worded, moved}
 use Rattle.chain.proofs.Dues.{begin_yes, extend_yes}
 use Rattle.chain.proofs.Laid.{laid_none, laid-laid, laid_right, length-laid}
 use Rattle.chain.proofs.Zeros.{chain_same, chain_twice}
-use Rattle.rooms.specs.Rooms.{Ground, fats_needed, minis_needed, need, fits}
+use Rattle.rooms.specs.Rooms.{fats_needed, minis_needed, need, fits}
 use Rattle.rooms.proofs.Rooms.{fits_parts}
 use Rattle.mini.specs.Adding.{GrowsBy, Grows, filled, fats_told, minis_told, AddsFatsBy, AddsMinisBy, AddsFats, AddsMinis}
 use Rattle.mini.specs.Mini.{root_of, stream_at, fat_at, ground_of, Present, Borne, kept_part}
 use Rattle.mini.proofs.Figures.{end_none, whole_units, units_few, bytes_few}
-use Rattle.mini.proofs.States.{some_chain, wrote_yes, hosted_same, entered_yes}
-use Rattle.mini.proofs.Swaps.{same_notes, bytes_here, bytes_other, root_moved, moved_twice}
+use Rattle.mini.proofs.States.{wrote_yes, hosted_same, entered_yes}
+use Rattle.mini.proofs.Swaps.{same_notes, bytes_here, root_moved, moved_twice}
 
 -- n sectors went to the end of the chain of start, or to a new chain; it is that of h
 pub record Grew (s : Store) (start n h : ℕ) (after : Store) : Type 0 where

@@ -1,6 +1,6 @@
 -- Reserving sectors before places are taken, and trimming after some were given back, leave what the mini store means.
 -- Assumes nothing.
-use Rattle.std.proofs.Common.{◌≡◌, ℕ, ◌+◌, ◌-◌, ◌*◌, ◌/◌, ◌%◌, ◌<◌, ◌≤◌, Bool, true, false, cond, ltb, ◌≢◌, ◌⊎◌, List, [], ◌∷◌, ◌++◌, length, get_or, take, drop, replicate, count_by, sym, refl, ap, ◌∙◌, subst, inl, inr, ⊎_elim, mod-eq_of_lt, arith}
+use Rattle.std.proofs.Common.{◌≡◌, ℕ, ◌+◌, ◌-◌, ◌*◌, ◌/◌, ◌%◌, ◌<◌, ◌≤◌, true, List, ◌++◌, length, count_by, sym, refl, ap, ◌∙◌, subst, inl, inr, ⊎_elim, mod-eq_of_lt, arith}
 use Rattle.std.proofs.lemmas.List.{get_or_append_left, length-take-le, take_all, get_or_past, length-set}
 use Rattle.std.proofs.lemmas.Bool.{cases_lt, cond-true, cond-false, lt-ltb, le-ltb}
 use Rattle.links.specs.Bytes.{link_in}
@@ -9,21 +9,21 @@ use Rattle.links.specs.Stack.{trimmed}
 use Rattle.links.proofs.Counts.{inside}
 use Rattle.links.proofs.Frees.{count_trimmed}
 use Rattle.links.proofs.Stacks.{Kept}
-use Rattle.store.specs.Meaning.{Store, Hosted, Lawful, bytes_of, units_of, zeros, entered}
+use Rattle.store.specs.Meaning.{Store, Hosted, Lawful, bytes_of, units_of, entered}
 use Rattle.chain.specs.Units.{cell, content}
-use Rattle.chain.specs.Webs.{Web, Woven, stored}
+use Rattle.chain.specs.Webs.{stored}
 use Rattle.chain.proofs.Laid.{slice_left}
 use Rattle.chain.proofs.Weaves.{same_stored}
 use Rattle.rooms.specs.Rooms.{Ground, fats_needed, minis_needed, need, fits, growth, reserved, taller}
-use Rattle.rooms.proofs.Rooms.{Fair, fits_parts, reserve_same, reserve_none, taller_less, up_more}
-use Rattle.mini.specs.Adding.{AddsFats, AddsMinis, Reserves}
+use Rattle.rooms.proofs.Rooms.{Fair, fits_parts, reserve_same, reserve_none, taller_less}
+use Rattle.mini.specs.Adding.{AddsFats, AddsMinis}
 use Rattle.mini.specs.Mini.{root_of, stream_at, fat_at, ground_of, Borne, kept_part, dry, web_of, Synced}
-use Rattle.mini.specs.Steps.{rooted, shorter_root, Trims}
+use Rattle.mini.specs.Steps.{rooted, Trims}
 use Rattle.mini.proofs.Figures.{bytes_few}
 use Rattle.mini.proofs.Growths.{dry-more, borne_fair}
 use Rattle.mini.proofs.Reserves.{Added, reserved-added, added_borne, added_ground}
 use Rattle.mini.proofs.States.{hosted_same, entered_yes}
-use Rattle.mini.proofs.Swaps.{rooted_long, kept_rooted, bytes_rooted, ground_rooted, borne_rooted}
+use Rattle.mini.proofs.Swaps.{kept_rooted, bytes_rooted, ground_rooted, borne_rooted}
 use Rattle.mini.proofs.Weaves.{mini_woven}
 
 -- more bytes behind those of a unit

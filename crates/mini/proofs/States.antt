@@ -1,20 +1,19 @@
 -- Where the calls of a host have come to: a host s that came from m, with other bytes in mini stream and MiniFAT, and
 -- another root length.
 -- Assumes nothing.
-use Rattle.std.proofs.Common.{◌≡◌, ℕ, ◌+◌, ◌*◌, ◌/◌, ◌%◌, ◌<◌, ◌≤◌, Bool, true, false, cond, ltb, leb, ◌≢◌, ◌⊎◌, List, [], ◌∷◌, length, replicate, Some, None, count_by, Option, unwrap_or, sym, refl, ap, ◌∙◌, inl, inr, ⊎_elim, arith}
+use Rattle.std.proofs.Common.{◌≡◌, ℕ, ◌+◌, ◌*◌, ◌/◌, ◌<◌, ◌≤◌, cond, ltb, ◌≢◌, List, [], ◌∷◌, length, replicate, Some, None, count_by, Option, unwrap_or, sym, refl, ap, ◌∙◌, inl, inr, ⊎_elim, arith}
 use Rattle.std.proofs.lemmas.List.{length-replicate, length-set}
 use Rattle.std.proofs.lemmas.Bool.{cond-false, cond-true, le-ltb, lt-ltb}
 use Rattle.links.specs.Bytes.{bytes_of_link}
-use Rattle.links.specs.Links.{END, free}
-use Rattle.store.specs.Refusals.{Refused, unless}
-use Rattle.store.specs.Meaning.{Store, Notes, Hosted, Lawful, bytes_of, units_of, laid, with_chain, with_notes, moved, headed, refuse, due_copy, wrote, due_entry, entered}
+use Rattle.links.specs.Links.{free}
+use Rattle.store.specs.Refusals.{unless}
+use Rattle.store.specs.Meaning.{Store, Notes, Hosted, bytes_of, units_of, laid, with_chain, with_notes, moved, headed, refuse, wrote, entered}
 use Rattle.chain.specs.Webs.{Web}
 use Rattle.chain.proofs.Laid.{length-laid}
 use Rattle.rooms.specs.Rooms.{Ground, growth}
 use Rattle.mini.specs.Mini.{root_of, stream_at, fat_at, ground_of, Borne, kept_part, sealed, dry, web_of}
 use Rattle.mini.specs.Steps.{relinked, rooted, zeroed}
-use Rattle.mini.proofs.Figures.{end_none}
-use Rattle.mini.proofs.Swaps.{bytes_here, bytes_other, long_same, ground_same, borne_same, kept_same, sealed_stream, sealed_fat, sealed_bytes, rooted_start, rooted_long, sealed-rooted, kept_rooted, bytes_rooted, ground_rooted, borne_rooted}
+use Rattle.mini.proofs.Swaps.{bytes_here, bytes_other, ground_same, borne_same, kept_same, sealed_stream, sealed_fat, sealed_bytes, rooted_start, rooted_long, sealed-rooted, kept_rooted, bytes_rooted, ground_rooted}
 
 -- a chain that has bytes is there, and a write within them is accepted
 module _ (s : Store) (h : ℕ) where

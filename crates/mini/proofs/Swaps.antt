@@ -1,14 +1,14 @@
 -- Other bytes in a chain of the host, as many as there were, and another root length: what stays.
 -- Assumes nothing.
-use Rattle.std.proofs.Common.{◌≡◌, ℕ, ◌+◌, ◌*◌, ◌/◌, ◌%◌, ◌<◌, ◌≤◌, Bool, true, false, cond, ◌||◌, eqb, ◌≢◌, ◌⊎◌, List, [], ◌∷◌, length, get_or, set, Some, None, Option, unwrap_or, sym, refl, ap, ◌∙◌, inl, inr, ⊎_elim, arith}
+use Rattle.std.proofs.Common.{◌≡◌, ℕ, ◌*◌, ◌/◌, ◌%◌, ◌<◌, ◌≤◌, true, cond, ◌||◌, eqb, ◌≢◌, ◌⊎◌, List, [], length, get_or, set, Some, None, Option, unwrap_or, sym, refl, ap, ◌∙◌, inl, inr, ⊎_elim, arith}
 use mathlib.Core.Path.{fun_ext}
 use Rattle.std.specs.Map.{update}
-use Rattle.std.proofs.lemmas.List.{get_or-set_same, set-set, get_or_default, length-set}
-use Rattle.std.proofs.lemmas.Map.{update_here, update_apart, update-update}
-use Rattle.std.proofs.lemmas.Bool.{cases_eq, eq-eqb, ne_eqb, or_left, or_right}
+use Rattle.std.proofs.lemmas.List.{get_or-set_same, set-set}
+use Rattle.std.proofs.lemmas.Map.{update_here, update_apart}
+use Rattle.std.proofs.lemmas.Bool.{cases_eq, eq-eqb, or_left, or_right}
 use Rattle.links.specs.Links.{END}
 use Rattle.store.specs.declared.entries.Entry.{Entry}
-use Rattle.store.specs.Meaning.{Store, Notes, bytes_of, units_of, with_chain, with_notes, moved}
+use Rattle.store.specs.Meaning.{Store, Notes, bytes_of, units_of, with_chain, moved}
 use Rattle.chain.proofs.Zeros.{chain_twice}
 use Rattle.rooms.specs.Rooms.{Ground}
 use Rattle.mini.specs.Mini.{root_of, stream_at, fat_at, ground_of, Present, Borne, kept_part, sealed}

@@ -1,7 +1,7 @@
 -- What taking a mini sector, linking one and giving one back make of the mini sectors, by what the host's calls leave.
 -- Assumes nothing.
-use Rattle.std.proofs.Common.{◌≡◌, ℕ, suc, ◌+◌, ◌-◌, ◌*◌, ◌/◌, ◌%◌, ◌<◌, ◌≤◌, Bool, true, false, cond, ◌≢◌, ◌⊎◌, List, [], ◌∷◌, ◌++◌, map, length, take, set, replicate, Some, None, count_by, Option, unwrap_or, sym, refl, ap, ◌∙◌, inl, inr, ⊎_elim, arith}
-use Rattle.std.proofs.lemmas.List.{length-set, length_push, length-take, length-append}
+use Rattle.std.proofs.Common.{◌≡◌, ℕ, ◌+◌, ◌-◌, ◌*◌, ◌/◌, ◌<◌, ◌≤◌, ◌≢◌, List, [], ◌∷◌, ◌++◌, length, set, replicate, Some, count_by, unwrap_or, sym, refl, ap, ◌∙◌, inl, inr, ⊎_elim, arith}
+use Rattle.std.proofs.lemmas.List.{length-set, length_push, length-take}
 use Rattle.links.specs.Bytes.{bytes_of_link, link_in}
 use Rattle.links.specs.Links.{FREE, END, free, at, In}
 use Rattle.links.specs.Stack.{Stacks, place_after, links_taken, stack_taken}
@@ -10,18 +10,18 @@ use Rattle.links.proofs.Counts.{inside}
 use Rattle.links.proofs.Effects.{wrote-set}
 use Rattle.links.proofs.Frees.{stack_count}
 use Rattle.links.proofs.Stacks.{Kept}
-use Rattle.links.proofs.Takings.{Taking, taking, kept_taken}
-use Rattle.store.specs.Meaning.{Store, Hosted, Lawful, bytes_of, units_of, laid, with_chain, wrote, entered}
+use Rattle.links.proofs.Takings.{taking, kept_taken}
+use Rattle.store.specs.Meaning.{Store, Hosted, Lawful, bytes_of, units_of, laid, with_chain, wrote}
 use Rattle.chain.specs.Webs.{Web}
 use Rattle.chain.proofs.Laid.{length-laid}
-use Rattle.rooms.specs.Rooms.{Ground, growth, taller}
+use Rattle.rooms.specs.Rooms.{growth, taller}
 use Rattle.mini.specs.Mini.{root_of, stream_at, fat_at, ground_of, Borne, kept_part, sealed, dry, web_of, Synced}
-use Rattle.mini.specs.Steps.{relinked, rooted, grown_root, zeroed, took_mini, linked_to, put_mini, ended_mini, gave_mini}
+use Rattle.mini.specs.Steps.{relinked, rooted, grown_root, zeroed, took_mini, put_mini, ended_mini, gave_mini}
 use Rattle.mini.proofs.Figures.{end_none, whole_units}
 use Rattle.mini.proofs.Links.{links_wrote}
 use Rattle.mini.proofs.Growths.{dry-one, one_less, one-fits}
 use Rattle.mini.proofs.Swaps.{borne_rooted}
-use Rattle.mini.proofs.States.{State, some_chain, ground_at, as_web, state_start, state_web, link_wrote_lem, state_link, borne_link, wipe_wrote, state_wipe, borne_wipe, root_set, two-rooted, state_root}
+use Rattle.mini.proofs.States.{State, some_chain, ground_at, state_start, state_web, link_wrote_lem, state_link, borne_link, wipe_wrote, state_wipe, borne_wipe, two-rooted, state_root}
 
 -- where the MiniFAT has bytes, it is not the mini stream
 pub apart_heads : (most : ℕ) (s : Store) (t : ℕ) → Lawful most s → Borne s t → 0 < length (bytes_of s (fat_at s)) → stream_at s ≢ fat_at s

@@ -1,25 +1,22 @@
 -- What a mini store means where it is open, and what going along its chains tells.
 -- Assumes nothing.
-use Rattle.std.proofs.Common.{◌≡◌, ℕ, ◌+◌, ◌*◌, ◌/◌, ◌<◌, ◌≤◌, Bool, true, false, cond, ◌||◌, eqb, ◌≢◌, ◌⊎◌, List, [], ◌∷◌, length, Some, None, Option, unwrap_or, sym, refl, ap, ◌∙◌, subst, inl, inr, ⊎_elim, arith}
+use Rattle.std.proofs.Common.{◌≡◌, ℕ, ◌/◌, ◌≤◌, Bool, true, false, cond, ◌||◌, eqb, ◌⊎◌, List, [], length, Some, None, Option, unwrap_or, sym, refl, ap, ◌∙◌, subst, inl, inr, ⊎_elim, arith}
 use mathlib.Core.Path.{fun_ext}
-use Rattle.std.specs.Option.{option_map}
 use Rattle.std.specs.Map.{update}
 use Rattle.std.proofs.lemmas.Map.{update_here, update_apart}
 use Rattle.std.proofs.lemmas.Bool.{cases_eq, eq-eqb, ne_eqb, or_left}
-use Rattle.links.specs.Links.{END, at}
+use Rattle.links.specs.Links.{END}
 use Rattle.links.specs.Bytes.{link_in}
 use Rattle.links.specs.Walk.{chain_of, surveyed, reach}
-use Rattle.links.specs.declared.walks.Surveyed.{Surveyed}
 use Rattle.links.proofs.Counts.{path_short}
 use Rattle.links.proofs.Stacks.{Kept}
-use Rattle.store.specs.Meaning.{Store, Notes, Hosted, Lawful, bytes_of, units_of, with_chain, moved}
-use Rattle.chain.specs.Units.{View, content}
-use Rattle.chain.specs.Webs.{Web, Woven, stored, viewed, path_of}
+use Rattle.store.specs.Meaning.{Store, Lawful, bytes_of, units_of, with_chain}
+use Rattle.chain.specs.Units.{content}
+use Rattle.chain.specs.Webs.{Woven, stored, viewed, path_of}
 use Rattle.chain.proofs.Weaves.{Chained, some_told, none_told, survey_some}
 use Rattle.rooms.specs.Rooms.{Ground}
-use Rattle.mini.specs.Mini.{root_of, stream_at, fat_at, ground_of, ground_if, Borne, kept_part, sealed, web_of, shut_of, meant_by, mini, Synced}
+use Rattle.mini.specs.Mini.{root_of, stream_at, fat_at, ground_of, ground_if, Borne, kept_part, sealed, web_of, meant_by, mini, Synced}
 use Rattle.mini.proofs.Figures.{end_none, told_borne, borne_told}
-use Rattle.mini.proofs.States.{some_chain}
 use Rattle.mini.proofs.Swaps.{same_store, same_notes, same_ground, sealed_bytes}
 use Rattle.mini.proofs.Weaves.{mini_woven}
 

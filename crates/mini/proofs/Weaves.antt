@@ -1,10 +1,10 @@
 -- The mini sectors are linked units: what always holds of them, and what taking and giving back do to chains.
 -- Assumes nothing.
-use Rattle.std.proofs.Common.{◌≡◌, ℕ, ◌+◌, ◌-◌, ◌*◌, ◌<◌, ◌≤◌, ◌≢◌, List, [], ◌∷◌, ◌++◌, length, take, drop, set, replicate, sym, refl, ap, ◌∙◌, append-nil, add-zero, arith}
+use Rattle.std.proofs.Common.{◌≡◌, ℕ, ◌+◌, ◌-◌, ◌*◌, ◌<◌, ◌≤◌, ◌≢◌, List, [], ◌++◌, length, drop, set, replicate, sym, refl, ap, ◌∙◌, append-nil, add-zero, arith}
 use Rattle.std.proofs.lemmas.List.{drop_all, length-replicate}
-use Rattle.links.specs.Links.{FREE, END, at, Head}
-use Rattle.links.specs.Chains.{Taken, Extended}
-use Rattle.links.specs.Stack.{place_after, links_taken, stack_taken}
+use Rattle.links.specs.Links.{END, at}
+use Rattle.links.specs.Chains.{Taken}
+use Rattle.links.specs.Stack.{place_after, links_taken}
 use Rattle.links.proofs.Counts.{inside}
 use Rattle.links.proofs.Effects.{take-one, wrote-set}
 use Rattle.links.proofs.Stacks.{Kept}
@@ -12,7 +12,7 @@ use Rattle.links.proofs.Takings.{taking}
 use Rattle.links.proofs.Wipes.{extend}
 use Rattle.store.specs.Meaning.{Store, bytes_of, laid}
 use Rattle.chain.specs.Units.{cell}
-use Rattle.chain.specs.Webs.{Web, Woven, Beside, Took, Behind, Gave, Ended, EndsWith}
+use Rattle.chain.specs.Webs.{Web, Woven, Took, Behind, Gave, Ended}
 use Rattle.chain.proofs.Joined.{length-cell, cell_same, cell_other}
 use Rattle.mini.specs.Mini.{stream_at, ground_of, Borne, web_of}
 use Rattle.mini.specs.Steps.{zeroed, took_mini, put_mini, ended_mini, gave_mini}

@@ -1,16 +1,16 @@
 -- What copying along a chain leaves of a mini store: a read nothing, a write the bytes of one chain.
 -- Assumes nothing.
-use Rattle.std.proofs.Common.{◌≡◌, ℕ, ◌+◌, ◌*◌, ◌/◌, ◌<◌, ◌≤◌, Bool, true, cond, ◌≢◌, List, [], ◌∷◌, length, Some, None, count_by, Option, sym, refl, ap, ◌∙◌, subst, ⊎_elim, arith}
+use Rattle.std.proofs.Common.{◌≡◌, ℕ, ◌+◌, ◌<◌, ◌≤◌, ◌≢◌, List, [], ◌∷◌, length, Some, count_by, sym, refl, ap, ◌∙◌, subst}
 use Rattle.std.proofs.lemmas.Bool.{cond-true, lt-ltb}
-use Rattle.links.specs.Links.{free, at, In, Head}
+use Rattle.links.specs.Links.{free, at, Head}
 use Rattle.links.proofs.Paths.{same_head}
 use Rattle.links.proofs.Stacks.{Kept}
 use Rattle.store.specs.Meaning.{Store, Lawful, laid, with_chain}
-use Rattle.chain.specs.Units.{View, Wrote, content, cell}
-use Rattle.chain.specs.Webs.{Web, Woven, stored, viewed, path_of}
+use Rattle.chain.specs.Units.{View, Wrote, content}
+use Rattle.chain.specs.Webs.{Woven, stored, viewed, path_of}
 use Rattle.chain.proofs.Strands.{one_chain, chain_kept}
 use Rattle.rooms.specs.Rooms.{growth}
-use Rattle.mini.specs.Mini.{stream_at, ground_of, Borne, sealed, web_of, mini, Synced}
+use Rattle.mini.specs.Mini.{Borne, sealed, web_of, Synced}
 use Rattle.mini.proofs.Told.{unseal, alike_notes, alike_synced, alike_ground}
 use Rattle.mini.proofs.Weaves.{mini_woven}
 

@@ -1,5 +1,5 @@
 -- Assumes nothing.
-use Rattle.std.proofs.Common.{sym, ◌∙◌, arith}
+use Rattle.std.proofs.Common.{sym, arith}
 use Rattle.mini.proofs.Figures.{ground_yes, ground_small}
 use Rattle.mini.proofs.ground.Goals as goal
 

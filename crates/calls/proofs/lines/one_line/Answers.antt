@@ -9,6 +9,6 @@ returns-in_default-name c =
     rw (
       sym c.in-Some.ensures,
       differs w (codes "begin") c.in_default-name.not-begin,
-      differs w (codes "free") c.in_default-name.not_free,
+      differs w (codes "free") c.in_default-name.not-free,
       differs w (codes "units") c.in_default-name.not-units,
     )

@@ -21,7 +21,8 @@ returns-then-unit-ge-UNITS c =
 pub invariant_of-self : goal.invariant_of-self
 invariant_of-self c =
     let s = c.args.self.now in
-    joined_kept s.heads s.ranks s.bytes c.args.unit c.args.head c.units-rank.result c.copy_from_slice.new.self (search (rules, sound_of))
+    let k = joined_kept s.heads s.ranks s.bytes c.args.unit c.args.head c.units-rank.result c.copy_from_slice.new.self (search (rules, sound_of)) in
+    record { headed = k.headed; ranked = k.ranked; filled = k.filled; unique = k.unique; down = k.down; named = k.named }
 
 pub returns : goal.returns
 returns c =

@@ -6,7 +6,14 @@ use Rattle.cells.proofs.Stores.{fresh_chain}
 use Rattle.cells.proofs.Cells.new.Goals as goal
 
 pub invariant_of-result : goal.invariant_of-result
-invariant_of-result c = (refl, (refl, (length-replicate {A = ℕ} 32768 0, (fresh_unique (replicate 64 0), (fresh_down (replicate 64 0), (fresh_named (replicate 64 0), tt))))))
+invariant_of-result c = record {
+  headed = refl;
+  ranked = refl;
+  filled = length-replicate {A = ℕ} 32768 0;
+  unique = fresh_unique (replicate 64 0);
+  down = fresh_down (replicate 64 0);
+  named = fresh_named (replicate 64 0);
+}
 
 pub returns : goal.returns
 returns c = ((λ n h. fresh_chain _ _ h), (λ n. refl))

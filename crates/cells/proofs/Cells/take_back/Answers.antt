@@ -9,7 +9,9 @@ returns-then-count-eq0 c =
     record { told = λ n. (t n).0; left = λ n. (t n).1 }
 
 pub invariant_of-self : goal.invariant_of-self
-invariant_of-self c = part_kept c.args.self.now c.args.head _ c.units-count.ensures c.if-count-eq0.false c.in-Some.unit c.in-Some.ensures
+invariant_of-self c =
+    let k = part_kept c.args.self.now c.args.head _ c.units-count.ensures c.if-count-eq0.false c.in-Some.unit c.in-Some.ensures in
+    record { headed = k.headed; ranked = k.ranked; filled = k.filled; unique = k.unique; down = k.down; named = k.named }
 
 pub returns-in-Some : goal.returns-in-Some
 returns-in-Some c =

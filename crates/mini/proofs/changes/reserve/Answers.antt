@@ -1,5 +1,5 @@
 -- Assumes nothing.
-use Rattle.std.proofs.Common.{◌%◌, ap, subst}
+use Rattle.std.proofs.Common.{◌%◌, subst}
 use Rattle.mini.specs.Adding.{AddsFats, AddsMinis}
 use Rattle.mini.proofs.changes.reserve.Goals as goal
 
