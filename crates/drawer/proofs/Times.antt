@@ -1,14 +1,13 @@
 -- What giving and taking back one unit at a time come to.
 -- Assumes nothing.
-use Rattle.std.proofs.Common.{◌≡◌, ℕ, zero, suc, ◌+◌, ◌-◌, ◌*◌, ◌<◌, ◌≤◌, true, false, cond, eqb, ltb, ◌≢◌, ◌⊎◌, List, [], ◌∷◌, ◌++◌, length, take, replicate, Some, None, Option, unwrap_or, sym, refl, ap, ◌∙◌, inl, inr, ⊎_elim, append_assoc, append-nil, suc-mul, zero-mul, arith}
-use mathlib.Core.Path.{fun_ext}
+use Rattle.std.proofs.Common.{◌≡◌, ℕ, zero, suc, ◌+◌, ◌-◌, ◌*◌, ◌<◌, ◌≤◌, cond, eqb, ltb, List, ◌++◌, length, take, Some, None, Option, sym, refl, ap, ◌∙◌, ⊎_elim, arith}
 use Rattle.std.specs.Map.{update}
-use Rattle.std.proofs.lemmas.List.{replicate-append-replicate, take-take, take_all, length-take-le}
-use Rattle.std.proofs.lemmas.Map.{update_here, update_apart, update-update}
-use Rattle.std.proofs.lemmas.Bool.{cases_eq, cases_lt, lt-ltb, le-ltb, cond-true, cond-false}
-use Rattle.store.specs.Meaning.{Store, Notes, bytes_of, zeros, with_chain}
+use Rattle.std.proofs.lemmas.List.{take-take, take_all, length-take-le}
+use Rattle.std.proofs.lemmas.Map.{update_here}
+use Rattle.std.proofs.lemmas.Bool.{cases_lt, lt-ltb, le-ltb, cond-true}
+use Rattle.store.specs.Meaning.{Store, zeros, with_chain}
 use Rattle.chain.proofs.Zeros.{chain_same, chain_twice, no_zeros, more-zeros}
-use Rattle.cells.specs.Stored.{joined_to, given, taken_back, but_last}
+use Rattle.cells.specs.Stored.{given, taken_back, but_last}
 use Rattle.drawer.specs.Drawn.{times}
 
 -- one step more

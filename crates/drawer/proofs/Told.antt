@@ -1,6 +1,6 @@
 -- What is due at each call, and what the call leaves, once the units of the head are counted.
 -- Assumes nothing.
-use Rattle.std.proofs.Common.{◌≡◌, ℕ, suc, ◌+◌, ◌-◌, ◌*◌, ◌<◌, ◌≤◌, Bool, true, false, cond, ◌||◌, eqb, ltb, leb, ◌≢◌, ◌⊎◌, List, [], ◌∷◌, ◌++◌, length, get_or, take, drop, replicate, Some, None, Ok, Err, Option, Result, unwrap_or, sym, refl, ap, ◌∙◌, inl, inr, ⊎_elim, append_assoc, suc-mul, add-mul, zero-mul, arith}
+use Rattle.std.proofs.Common.{◌≡◌, ℕ, ◌+◌, ◌-◌, ◌*◌, ◌<◌, ◌≤◌, true, false, eqb, ltb, ◌≢◌, ◌⊎◌, List, [], ◌++◌, length, get_or, take, replicate, Some, None, Ok, Err, Option, Result, unwrap_or, sym, refl, ap, ◌∙◌, inl, ⊎_elim, add-mul, arith}
 use Rattle.std.specs.List.{slice_get}
 use Rattle.std.proofs.lemmas.List.{replicate-append-replicate, set_past}
 use Rattle.std.proofs.lemmas.Map.{update_here}
@@ -10,7 +10,7 @@ use Rattle.store.specs.declared.entries.Entry.{Entry}
 use Rattle.store.specs.declared.faults.Refusal.TheVariants.{NoEntry}
 use Rattle.store.specs.declared.faults.StoreFault.{StoreFault}
 use Rattle.store.specs.Refusals.{Refused, refused_by, answer, unless}
-use Rattle.store.specs.Meaning.{Store, bytes_of, units_of, zeros, laid, with_chain, headed, refuse, due_head, due_copy, due_begin, due_extend, due_cut, read_into, wrote, extended, cut_to, freed, Begins, entry_or, due_entry, with_notes, moved, entered, Hosted}
+use Rattle.store.specs.Meaning.{Store, bytes_of, units_of, zeros, laid, with_chain, headed, refuse, due_head, due_copy, due_extend, due_cut, wrote, extended, cut_to, freed, Begins, entry_or, due_entry, with_notes, moved, entered, Hosted}
 use Rattle.cells.specs.Meant.{within, overlaid, Starts}
 use Rattle.cells.specs.Stored.{given, taken_back}
 use Rattle.cells.specs.Noted.{path}

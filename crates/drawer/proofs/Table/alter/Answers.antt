@@ -1,7 +1,7 @@
 -- Assumes nothing.
 use Rattle.std.proofs.Common.{sym, arith}
 use Rattle.std.proofs.lemmas.List.{set_past}
-use Rattle.std.proofs.lemmas.Bool.{le-ltb, lt-ltb}
+use Rattle.std.proofs.lemmas.Bool.{le-ltb}
 use Rattle.drawer.proofs.Table.alter.Goals as goal
 
 pub returns-then-id-len : goal.returns-then-id-len
