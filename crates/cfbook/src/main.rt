@@ -2,6 +2,7 @@
 
 #![tactic(auto)]
 
+use anyhow::anyhow;
 use drawer::Drawer;
 use std::{env, fs, io};
 
@@ -16,7 +17,7 @@ fn task(rt: &HostRuntime, name: &str, text: &str) -> anyhow::Result<()> {
     match name {
         "links" => table::run(rt, text),
         "drawer" => chains::run(rt, &mut Drawer::new(), text),
-        _ => Err(USAGE.into()),
+        _ => Err(anyhow!(USAGE)),
     }
 }
 
@@ -31,7 +32,7 @@ fn run(rt: &HostRuntime) -> anyhow::Result<()> {
         [_, _, _, ..] => {
             for pair in all[1..].chunks(2) {
                 let [name, path] = pair else {
-                    return Err(USAGE.into());
+                    return Err(anyhow!(USAGE));
                 };
                 task(
                     rt,
@@ -41,7 +42,7 @@ fn run(rt: &HostRuntime) -> anyhow::Result<()> {
             }
             Ok(())
         }
-        _ => Err(USAGE.into()),
+        _ => Err(anyhow!(USAGE)),
     }
 }
 
