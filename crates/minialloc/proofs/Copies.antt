@@ -1,6 +1,6 @@
 -- Reading and writing along a chain that was found: what is asked of the copying, and what it leaves.
 -- Assumes nothing.
-use Rattle.std.proofs.Common.{◌≡◌, ℕ, ◌+◌, ◌-◌, ◌*◌, ◌^◌, ◌<◌, ◌≤◌, Bool, true, cond, ◌≢◌, List, length, get_or, take, drop, Some, None, Ok, Err, Result, sym, refl, ap, ◌∙◌, subst, arith}
+use Rattle.std.proofs.Common.{◌≡◌, ℕ, ◌+◌, ◌-◌, ◌*◌, ◌^◌, ◌<◌, ◌≤◌, Bool, true, cond, ◌≢◌, List, length, get_or, take, drop, Some, None, Ok, Err, Result, sym, ap, ◌∙◌, subst, arith}
 use Rattle.links.specs.Walk.{chain_of, surveyed, reach}
 use Rattle.links.proofs.Stacks.{Kept}
 use Rattle.store.specs.declared.faults.Refusal.TheVariants.{PastEnd}

@@ -1,6 +1,6 @@
 -- Beginning and extending a chain: the sectors are reserved, and so many mini sectors are ready.
 -- Assumes nothing.
-use Rattle.std.proofs.Common.{◌≡◌, ℕ, zero, suc, ◌+◌, ◌-◌, ◌*◌, ◌<◌, ◌≤◌, Bool, true, cond, ◌≢◌, List, [], ◌∷◌, ◌++◌, length, get_or, Some, None, Ok, count_by, Result, sym, refl, ap, ◌∙◌, subst, arith}
+use Rattle.std.proofs.Common.{◌≡◌, ℕ, zero, suc, ◌+◌, ◌-◌, ◌<◌, ◌≤◌, Bool, true, ◌≢◌, List, [], ◌∷◌, ◌++◌, length, Some, None, Ok, count_by, Result, sym, refl, ap, ◌∙◌, subst, arith}
 use Rattle.links.specs.Links.{free, at, Head}
 use Rattle.links.specs.Walk.{last_or, reach}
 use Rattle.links.proofs.Frees.{stack_count}

@@ -1,6 +1,6 @@
 -- Cutting and freeing a chain, and the trimming behind.
 -- Assumes nothing.
-use Rattle.std.proofs.Common.{◌≡◌, ℕ, zero, suc, ◌+◌, ◌-◌, ◌*◌, ◌<◌, ◌≤◌, Bool, true, cond, ◌≢◌, List, [], ◌∷◌, length, get_or, take, Some, None, Ok, Result, sym, refl, ap, ◌∙◌, subst, arith}
+use Rattle.std.proofs.Common.{◌≡◌, ℕ, zero, suc, ◌+◌, ◌-◌, ◌*◌, ◌<◌, ◌≤◌, Bool, true, ◌≢◌, List, [], ◌∷◌, length, get_or, take, Some, None, Ok, Result, refl, ap, ◌∙◌, arith}
 use Rattle.links.specs.Links.{at}
 use Rattle.links.specs.Walk.{reach}
 use Rattle.links.proofs.Stacks.{Kept}

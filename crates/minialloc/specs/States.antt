@@ -1,6 +1,6 @@
 -- The state of a mini store, and what its calls make of it: of the host's meaning, of the table and of the stack.
 -- Assumes nothing.
-use Rattle.std.specs.Prelude.{◌≡◌, ℕ, ◌-◌, Bool, List, [], length, Ok, Err, count_by, Result, slice_index}
+use Rattle.std.specs.Prelude.{◌≡◌, ℕ, ◌-◌, Bool, List, length, Ok, Err, count_by, Result, slice_index}
 use Rattle.links.specs.Held.{links_of}
 use Rattle.links.specs.Links.{free}
 use Rattle.links.specs.Stack.{place_after}

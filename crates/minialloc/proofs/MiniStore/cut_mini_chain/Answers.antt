@@ -1,13 +1,11 @@
 -- Assumes nothing.
-use Rattle.std.proofs.Common.{◌≡◌, ◌+◌, ◌-◌, ◌<◌, ◌≤◌, ◌⊎◌, length, get_or, sym, refl, ap, ◌∙◌, inl, inr, ⊎_elim, arith}
+use Rattle.std.proofs.Common.{sym, ◌∙◌, inl, inr, ⊎_elim, arith}
 use Rattle.std.proofs.lemmas.Result.{err_from_is_err_and}
 use Rattle.links.specs.Held.{links_of}
 use Rattle.links.proofs.Stacks.{kept_of, few_of}
 use Rattle.mini.specs.Mini.{mini, web_of}
 use Rattle.store.specs.declared.faults.Refusal.TheVariants.{BadCount}
-use Rattle.store.specs.declared.faults.StoreFault.{StoreFault}
-use Rattle.store.specs.Meaning.{Store, units_of}
-use Rattle.chain.specs.Webs.{path_of, shortened, stored}
+use Rattle.chain.specs.Webs.{shortened, stored}
 use Rattle.chain.proofs.Dues.{cut_no, told_no, left_no}
 use Rattle.mini.specs.Steps.{ended_mini, gave_mini}
 use Rattle.mini.proofs.Told.{chain_none, mini_same, synced_same}

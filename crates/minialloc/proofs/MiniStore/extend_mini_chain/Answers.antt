@@ -1,5 +1,5 @@
 -- Assumes nothing.
-use Rattle.std.proofs.Common.{◌≡◌, ◌+◌, ◌<◌, ◌≤◌, sym, ap, ◌∙◌, arith}
+use Rattle.std.proofs.Common.{◌+◌, ◌<◌, ◌≤◌, sym, ap, ◌∙◌, arith}
 use Rattle.std.proofs.lemmas.Result.{err_from_is_err_and}
 use Rattle.links.specs.Held.{links_of}
 use Rattle.links.proofs.Stacks.{kept_of, few_of}
@@ -10,7 +10,6 @@ use Rattle.rooms.specs.Meant.{meant}
 use Rattle.rooms.specs.Rooms.{growth}
 use Rattle.rooms.proofs.Rooms.{growth-within}
 use Rattle.store.specs.declared.faults.Refusal.TheVariants.{NoRoom}
-use Rattle.store.specs.declared.faults.StoreFault.{StoreFault}
 use Rattle.mini.specs.Steps.{put_mini}
 use Rattle.mini.proofs.Told.{along, along_few, chain_none, mini_same, synced_same}
 use Rattle.minialloc.specs.States.{State, ExtendsChain, next_mini}

@@ -1,5 +1,5 @@
 -- Assumes nothing.
-use Rattle.std.proofs.Common.{◌+◌, ◌*◌, sym, ap, ◌∙◌}
+use Rattle.std.proofs.Common.{◌+◌, ◌*◌, ap, ◌∙◌}
 use Rattle.links.specs.Held.{links_of}
 use Rattle.chain.specs.Webs.{viewed}
 use Rattle.store.specs.Meaning.{read_into}
