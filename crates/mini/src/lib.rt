@@ -30,12 +30,14 @@ pub struct Asked {
     pub fats: Option<u32>,
 }
 
-// The root entry. A host has one; where it had none, an entry of no kind and no bytes.
+// The root entry. A host has one; where it had none, an entry of no kind and no bytes. The host is asked for its entries
+// first, as that question ensures that it has one, and units of 512 or 4,096 bytes.
 pub fn root<H: Host>(host: &mut H) -> Entry
     ensures told { result ≡ root_of (H.ChainStore.meaning host.old) }
     ensures hosted { Hosted (H.ChainStore.meaning host.old) }
     ensures left { H.ChainStore.meaning host.new ≡ H.ChainStore.meaning host.old }
 {
+    let _ = host.entries();
     match host.entry(0) {
         Ok(entry) => entry,
         Err(_) => Entry {

@@ -107,7 +107,6 @@ impl<H: Host> MiniStore<H> {
     // The entry with an id.
     pub fn entry(&mut self, id: u32) -> Result<Entry, StoreFault>
         ensures told { told result ≡ entry_of (host_of H.ChainStore.meaning self.old) H.ChainStore.layer id }
-        ensures hosted { Hosted (host_of H.ChainStore.meaning self.old) }
         ensures left { host_of H.ChainStore.meaning self.new ≡ host_of H.ChainStore.meaning self.old }
         ensures own { own_of self.new ≡ own_of self.old }
     {

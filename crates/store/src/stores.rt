@@ -96,7 +96,6 @@ pub trait Host: ChainStore {
     // The entry with an id.
     fn entry(&mut self, id: u32) -> Result<Entry, StoreFault>
         ensures told { told result ≡ entry_of (Self.ChainStore.meaning self.old) Self.ChainStore.layer id }
-        ensures hosted { Hosted (Self.ChainStore.meaning self.old) }
         ensures left { Self.ChainStore.meaning self.new ≡ Self.ChainStore.meaning self.old }
         ensures sound { Self.ChainStore.sound self.old → Self.ChainStore.sound self.new };
 
