@@ -4,6 +4,7 @@
 
 use anyhow::anyhow;
 use drawer::Drawer;
+use std::process::ExitCode;
 use std::{env, fs, io};
 
 mod chains;
@@ -46,10 +47,14 @@ fn run(rt: &HostRuntime) -> anyhow::Result<()> {
     }
 }
 
-fn main(rt: HostRuntime) -> anyhow::Result<()> {
-    let done = run(&rt);
-    if let Err(error) = &done {
-        eprintln!(rt; "cfbook: {error}")?;
+// Tells an error in one line, and ends with status 1.
+fn main(rt: HostRuntime) -> ExitCode {
+    match run(&rt) {
+        Ok(()) => ExitCode::SUCCESS,
+        Err(error) => {
+            // Where this line cannot be written either, the status alone tells.
+            let _ = eprintln!(rt; "cfbook: {error}");
+            ExitCode::FAILURE
+        }
     }
-    done
 }

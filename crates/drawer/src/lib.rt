@@ -3,7 +3,7 @@
 #![tactic(auto)]
 
 ghost use Rattle.std.specs.Prelude.{◌≡◌, ℕ, ◌+◌, length, None, nat_lt};
-ghost use Rattle.cells.proofs.Paths.{sound_of as soundOf};
+ghost use Rattle.cells.proofs.Paths.{sound_of};
 ghost use Rattle.cells.proofs.Stores.{lawful as lawfully};
 ghost use Rattle.cells.specs.Stored.{given, taken_back};
 ghost use Rattle.drawer.specs.Drawn.{noted, drawn, fresh, times};
@@ -122,7 +122,7 @@ impl ChainStore for Drawer {
 
     ghost most = { 64 };
 
-    ghost lawful = { λ d. lawfully d.cells.heads d.cells.ranks (soundOf d.cells) d.cells.bytes d.cells.filled (noted d) };
+    ghost lawful = { λ d. lawfully d.cells.heads d.cells.ranks (sound_of d.cells) d.cells.bytes d.cells.filled (noted d) };
 
     ghost sound = { λ d. Unit {0} };
 

@@ -22,14 +22,14 @@ pub record State : Type 0 where
   pub stack : List ℕ
 
 abbrev pub state_of : {X : Type 0} → (X → Store) → MiniStore X → State
-state_of meaning m = record { opened = m.open; host = meaning m.host; links = links_of m.table.links; stack = links_of m.table.stack }
+state_of meaning m = record { opened = m.opened; host = meaning m.host; links = links_of m.table.links; stack = links_of m.table.stack }
 
 -- what its host means; and the rest of it
 abbrev pub host_of : {X : Type 0} → (X → Store) → MiniStore X → Store
 host_of meaning m = meaning m.host
 
 abbrev pub own_of : {X : Type 0} → MiniStore X → Bool × List ℕ × List ℕ
-own_of m = (m.open, links_of m.table.links, links_of m.table.stack)
+own_of m = (m.opened, links_of m.table.links, links_of m.table.stack)
 
 -- what it means as a chain store, and its mini sectors as units that the table links
 abbrev pub meant_in : State → Store

@@ -21,13 +21,13 @@ impl<H: Host> MiniStore<H> {
     // A mini store over a host, shut.
     pub fn new(host: H) -> MiniStore<H>
         ensures host { result.host ≡ host }
-        ensures shut { result.open ≡ false }
+        ensures shut { result.opened ≡ false }
         ensures table { (links_of result.table.links ≡ []) × (links_of result.table.stack ≡ []) }
     {
         MiniStore {
             host,
             table: Stacked::new(),
-            open: false,
+            opened: false,
         }
     }
 
@@ -36,7 +36,7 @@ impl<H: Host> MiniStore<H> {
         ensures told { result ≡ (meant_in (state_of H.ChainStore.meaning self.old)).room }
         ensures left { state_of H.ChainStore.meaning self.new ≡ state_of H.ChainStore.meaning self.old }
     {
-        match figures(&mut self.host, &self.table, self.open) {
+        match figures(&mut self.host, &self.table, self.opened) {
             Some(ground) => self.table.free() + growth(ground),
             None => 0,
         }
@@ -47,7 +47,7 @@ impl<H: Host> MiniStore<H> {
         ensures told { told result ≡ answer (due_head (meant_in (state_of H.ChainStore.meaning self.old)) 3 head) (units_of (meant_in (state_of H.ChainStore.meaning self.old)) head) }
         ensures left { state_of H.ChainStore.meaning self.new ≡ state_of H.ChainStore.meaning self.old }
     {
-        let found = look(&mut self.host, &self.table, self.open, head, 0)?;
+        let found = look(&mut self.host, &self.table, self.opened, head, 0)?;
         Ok(found.units)
     }
 
@@ -57,7 +57,7 @@ impl<H: Host> MiniStore<H> {
         ensures out { out.new ≡ read_into (meant_in (state_of H.ChainStore.meaning self.old)) 3 head at out.old }
         ensures left { state_of H.ChainStore.meaning self.new ≡ state_of H.ChainStore.meaning self.old }
     {
-        let found = look(&mut self.host, &self.table, self.open, head, 0)?;
+        let found = look(&mut self.host, &self.table, self.opened, head, 0)?;
         if !holds(found.units, at, out.len()) {
             return Err(fault(Refusal::PastEnd, head));
         }
@@ -72,7 +72,7 @@ impl<H: Host> MiniStore<H> {
         ensures writes { Writes (state_of H.ChainStore.meaning self.old) head at src.now (told result) (state_of H.ChainStore.meaning self.new) }
         ensures sound { SyncedIn (state_of H.ChainStore.meaning self.old) → SyncedIn (state_of H.ChainStore.meaning self.new) }
     {
-        let found = look(&mut self.host, &self.table, self.open, head, 0)?;
+        let found = look(&mut self.host, &self.table, self.opened, head, 0)?;
         if !holds(found.units, at, src.len()) {
             return Err(fault(Refusal::PastEnd, head));
         }
@@ -89,7 +89,7 @@ impl<H: Host> MiniStore<H> {
         if count == 0 {
             return Err(fault(Refusal::BadCount, 0));
         }
-        let Some(ground) = figures(&mut self.host, &self.table, self.open) else {
+        let Some(ground) = figures(&mut self.host, &self.table, self.opened) else {
             return Err(fault(Refusal::NoRoom, 0));
         };
         let free = self.table.free();
@@ -107,7 +107,7 @@ impl<H: Host> MiniStore<H> {
         ensures taken { ExtendsChain H.ChainStore.most H.ChainStore.layer (state_of H.ChainStore.meaning self.old) head count (told result) (state_of H.ChainStore.meaning self.new) }
         ensures sound { SyncedIn (state_of H.ChainStore.meaning self.old) → SyncedIn (state_of H.ChainStore.meaning self.new) }
     {
-        let found = look(&mut self.host, &self.table, self.open, head, u32::MAX)?;
+        let found = look(&mut self.host, &self.table, self.opened, head, u32::MAX)?;
         let free = self.table.free();
         if count > free + growth(found.ground) {
             return Err(fault(Refusal::NoRoom, head));
@@ -138,7 +138,7 @@ impl<H: Host> MiniStore<H> {
         let found = look(
             &mut self.host,
             &self.table,
-            self.open,
+            self.opened,
             head,
             count.saturating_sub(1),
         )?;
@@ -157,7 +157,7 @@ impl<H: Host> MiniStore<H> {
         ensures frees { FreesChain H.ChainStore.layer (state_of H.ChainStore.meaning self.old) head (told result) (state_of H.ChainStore.meaning self.new) }
         ensures sound { SyncedIn (state_of H.ChainStore.meaning self.old) → SyncedIn (state_of H.ChainStore.meaning self.new) }
     {
-        let found = look(&mut self.host, &self.table, self.open, head, 0)?;
+        let found = look(&mut self.host, &self.table, self.opened, head, 0)?;
         release(self, head, found.units);
         self.trim();
         Ok(())

@@ -1,7 +1,7 @@
 //! The mini store as a chain store: its own calls, as the interface has them.
 
 ghost use Rattle.links.specs.Held.{links_of};
-ghost use Rattle.mini.proofs.Laws.{stacked_lawful as stackedLawful};
+ghost use Rattle.mini.proofs.Laws.{stacked_lawful};
 ghost use Rattle.minialloc.specs.States.{state_of, meant_in, SyncedIn};
 
 use crate::MiniStore;
@@ -22,7 +22,7 @@ impl<H: Host> ChainStore for MiniStore<H> {
 
     ghost most = { 4096 };
 
-    ghost lawful = { λ m. stackedLawful m.table (H.ChainStore.meaning m.host) H.ChainStore.most m.open (H.ChainStore.lawful m.host) };
+    ghost lawful = { λ m. stacked_lawful m.table (H.ChainStore.meaning m.host) H.ChainStore.most m.opened (H.ChainStore.lawful m.host) };
 
     ghost sound = { λ m. SyncedIn (state_of H.ChainStore.meaning m) };
 

@@ -38,7 +38,7 @@ const UNIT: u32 = 64;
 pub struct MiniStore<H: Host> {
     host: H,
     table: Stacked,
-    open: bool,
+    opened: bool,
 }
 
 // A refusal of the mini store.

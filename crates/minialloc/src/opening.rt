@@ -31,19 +31,19 @@ impl<H: Host> MiniStore<H> {
         ensures { state_of H.ChainStore.meaning self.new ≡ record { opened = true; host = H.ChainStore.meaning self.old.host; links = links_of table.links; stack = links_of table.stack } }
     {
         self.table = table;
-        self.open = true;
+        self.opened = true;
     }
 
     // Shuts: there is neither chain nor room until a table is installed.
     pub fn shut(&mut self)
         ensures { state_of H.ChainStore.meaning self.new ≡ record { opened = false; host = H.ChainStore.meaning self.old.host; links = links_of self.old.table.links; stack = links_of self.old.table.stack } }
     {
-        self.open = false;
+        self.opened = false;
     }
 
     pub fn is_open(&self) -> bool
-        ensures { result ≡ self.now.open }
+        ensures { result ≡ self.now.opened }
     {
-        self.open
+        self.opened
     }
 }

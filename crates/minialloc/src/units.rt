@@ -4,7 +4,7 @@ ghost use Rattle.std.specs.Prelude.{◌≡◌, ◌+◌, ◌*◌, true, length};
 ghost use Rattle.links.specs.Held.{links_of};
 ghost use Rattle.links.specs.Stack.{place_after};
 ghost use Rattle.chain.specs.Webs.{viewed};
-ghost use Rattle.mini.proofs.Laws.{stacked_woven as stackedWoven, stacked_whole as stackedWhole};
+ghost use Rattle.mini.proofs.Laws.{stacked_woven, stacked_whole};
 ghost use Rattle.mini.specs.Mini.{Borne, Synced, web_of};
 ghost use Rattle.mini.specs.Steps.{took_mini, put_mini, ended_mini, gave_mini};
 ghost use Rattle.store.specs.Meaning.{Hosted};
@@ -20,9 +20,9 @@ use store::stores::{ChainStore, Host};
 impl<H: Host> Linked for MiniStore<H> {
     ghost web = { λ m. web_of (H.ChainStore.meaning m.host) (links_of m.table.links) (links_of m.table.stack) };
 
-    ghost sound = { λ m. (m.open ≡ true) × Hosted (H.ChainStore.meaning m.host) × Borne (H.ChainStore.meaning m.host) (length (links_of m.table.links)) };
+    ghost sound = { λ m. (m.opened ≡ true) × Hosted (H.ChainStore.meaning m.host) × Borne (H.ChainStore.meaning m.host) (length (links_of m.table.links)) };
 
-    ghost woven = { λ m h. stackedWoven m.table (H.ChainStore.meaning m.host) h.2 };
+    ghost woven = { λ m h. stacked_woven m.table (H.ChainStore.meaning m.host) h.2 };
 
     ghost keeps = { λ m. Synced (H.ChainStore.meaning m.host) (links_of m.table.links) };
 
@@ -79,9 +79,9 @@ impl<H: Host> Linked for MiniStore<H> {
 impl<H: Host> Units for MiniStore<H> {
     ghost view = { λ m. viewed (web_of (H.ChainStore.meaning m.host) (links_of m.table.links) (links_of m.table.stack)) };
 
-    ghost sound = { λ m. (m.open ≡ true) × Hosted (H.ChainStore.meaning m.host) × Borne (H.ChainStore.meaning m.host) (length (links_of m.table.links)) };
+    ghost sound = { λ m. (m.opened ≡ true) × Hosted (H.ChainStore.meaning m.host) × Borne (H.ChainStore.meaning m.host) (length (links_of m.table.links)) };
 
-    ghost whole = { λ m h. stackedWhole m.table (H.ChainStore.meaning m.host) h.2 };
+    ghost whole = { λ m h. stacked_whole m.table (H.ChainStore.meaning m.host) h.2 };
 
     fn unit_len(&self) -> usize {
         64

@@ -27,15 +27,15 @@ returns-then-count-free g c =
     let few = few_of self.table.links in
     let kept = kept_of self.table in
     let ground = c.in-Some.ground in
-    let st = standing _ m ok L S few kept self.open (meant ground) (sym c.in-Some.ensures.told) in
+    let st = standing _ m ok L S few kept self.opened (meant ground) (sym c.in-Some.ensures.told) in
     let same = c.figures.ensures.left in
-    let less : (mini self.open m L S).room < c.args.count = omega (arith, room_of self.open m L S (meant ground) c.free-free.result kept st c.free-free.ensures.told, c.if-count-free.true, c.growth.ensures) in
+    let less : (mini self.opened m L S).room < c.args.count = omega (arith, room_of self.opened m L S (meant ground) c.free-free.result kept st c.free-free.ensures.told, c.if-count-free.true, c.growth.ensures) in
     record {
       begins = (
-        begin_no (mini self.open m L S) 3 c.args.count c.if-count-eq0.false less ∙ ap (λ x. Some (refused_by x)) (sym c.fault-then-count-free.ensures),
-        mini_same self.open m _ L S same,
+        begin_no (mini self.opened m L S) 3 c.args.count c.if-count-eq0.false less ∙ ap (λ x. Some (refused_by x)) (sym c.fault-then-count-free.ensures),
+        mini_same self.opened m _ L S same,
       );
-      taken = state_same self.open m _ L S same;
+      taken = state_same self.opened m _ L S same;
       sound = synced_same m _ L same;
     }
 
@@ -50,7 +50,7 @@ begin-requires g c =
     let few = few_of self.table.links in
     let kept = kept_of self.table in
     let ground = c.in-Some.ground in
-    let st = standing _ m ok L S few kept self.open (meant ground) (sym c.in-Some.ensures.told) in
+    let st = standing _ m ok L S few kept self.opened (meant ground) (sym c.in-Some.ensures.told) in
     let hosted = c.figures.ensures.hosted st.opened in
     let s = g.H.ChainStore.meaning c.figures.new.host in
     let v = g.H.ChainStore.meaning c.reserve.new.host in
@@ -59,10 +59,10 @@ begin-requires g c =
     let f = c.free-free.result in
     let l : n ≤ f + growth (meant ground) = omega (arith, c.if-count-free.false, c.growth.ensures) in
     record {
-      sound = sound_ready _ layer self.open m s v L S few kept ok same (meant ground) st hosted n f c.saturating_sub.result c.free-free.ensures.told l c.saturating_sub.ensures c.reserve.ensures;
+      sound = sound_ready _ layer self.opened m s v L S few kept ok same (meant ground) st hosted n f c.saturating_sub.result c.free-free.ensures.told l c.saturating_sub.ensures c.reserve.ensures;
       some = omega (arith, c.if-count-eq0.false);
-      ready = enough _ layer self.open m s v L S few kept ok same (meant ground) st hosted n f c.saturating_sub.result c.free-free.ensures.told l c.saturating_sub.ensures c.reserve.ensures;
-      room = roomy _ layer self.open m s v L S few kept ok same (meant ground) st hosted n f c.saturating_sub.result c.free-free.ensures.told l c.saturating_sub.ensures c.reserve.ensures;
+      ready = enough _ layer self.opened m s v L S few kept ok same (meant ground) st hosted n f c.saturating_sub.result c.free-free.ensures.told l c.saturating_sub.ensures c.reserve.ensures;
+      room = roomy _ layer self.opened m s v L S few kept ok same (meant ground) st hosted n f c.saturating_sub.result c.free-free.ensures.told l c.saturating_sub.ensures c.reserve.ensures;
     }
 
 pub returns : goal.returns
@@ -76,7 +76,7 @@ returns g c =
     let few = few_of self.table.links in
     let kept = kept_of self.table in
     let ground = c.in-Some.ground in
-    let st = standing _ m ok L S few kept self.open (meant ground) (sym c.in-Some.ensures.told) in
+    let st = standing _ m ok L S few kept self.opened (meant ground) (sym c.in-Some.ensures.told) in
     let hosted = c.figures.ensures.hosted st.opened in
     let s = g.H.ChainStore.meaning c.figures.new.host in
     let v = g.H.ChainStore.meaning c.reserve.new.host in
@@ -92,8 +92,8 @@ returns g c =
     let M = links_of after.table.links in
     let T = links_of after.table.stack in
     record {
-      begins = begun_yes _ layer self.open m s v L S few kept ok same (meant ground) st hosted n f c.saturating_sub.result c.free-free.ensures.told l c.saturating_sub.ensures c.reserve.ensures
-          u M T after.open oku h.0 h.2 (few_of after.table.links) (kept_of after.table) c.begin.result c.if-count-eq0.false new.0 new.1 c.begin.ensures.means;
-      taken = (v, prepares _ layer self.open m s v L S few kept ok same (meant ground) st hosted n f c.saturating_sub.result c.free-free.ensures.told l c.saturating_sub.ensures c.reserve.ensures, c.begin.ensures.told, h.0 ∙ sym st.opened, c.begin.ensures.left);
-      sound = λ y. c.begin.ensures.keeps (synced_ready _ layer self.open m s v L S few kept ok same (meant ground) st hosted n f c.saturating_sub.result c.free-free.ensures.told l c.saturating_sub.ensures c.reserve.ensures y);
+      begins = begun_yes _ layer self.opened m s v L S few kept ok same (meant ground) st hosted n f c.saturating_sub.result c.free-free.ensures.told l c.saturating_sub.ensures c.reserve.ensures
+          u M T after.opened oku h.0 h.2 (few_of after.table.links) (kept_of after.table) c.begin.result c.if-count-eq0.false new.0 new.1 c.begin.ensures.means;
+      taken = (v, prepares _ layer self.opened m s v L S few kept ok same (meant ground) st hosted n f c.saturating_sub.result c.free-free.ensures.told l c.saturating_sub.ensures c.reserve.ensures, c.begin.ensures.told, h.0 ∙ sym st.opened, c.begin.ensures.left);
+      sound = λ y. c.begin.ensures.keeps (synced_ready _ layer self.opened m s v L S few kept ok same (meant ground) st hosted n f c.saturating_sub.result c.free-free.ensures.told l c.saturating_sub.ensures c.reserve.ensures y);
     }

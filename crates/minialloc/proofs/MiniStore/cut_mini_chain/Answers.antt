@@ -27,15 +27,15 @@ returns-in_err-found g c =
     let kept = kept_of self.table in
     let f = c.in_err-found.ensures.told in
     let same = c.look.ensures.left in
-    let I = mini self.open m L S in
-    let none = chain_none _ m ok L S few kept self.open c.args.head f.1 in
+    let I = mini self.opened m L S in
+    let none = chain_none _ m ok L S few kept self.opened c.args.head f.1 in
     let p = err_from_is_err_and c.from_residual.result c.from_residual.ensures.1 in
-    let E : State = record { opened = self.open; host = m; links = L; stack = S } in
-    let X : State = record { opened = self.open; host = g.H.ChainStore.meaning c.look.new.host; links = L; stack = S } in
+    let E : State = record { opened = self.opened; host = m; links = L; stack = S } in
+    let X : State = record { opened = self.opened; host = g.H.ChainStore.meaning c.look.new.host; links = L; stack = S } in
     record {
       told = not_head I c.args.head none _ _ c.from_residual.result p.0 p.1 (p.2 ∙ f.0);
-      left = not_head_left I c.args.head none _ I _ _ (mini_same self.open m _ L S same);
-      cuts = broke_by (λ r. CutsChain layer E c.args.head c.args.count r X) c.from_residual.result p.0 p.1 (state_same self.open m _ L S same);
+      left = not_head_left I c.args.head none _ I _ _ (mini_same self.opened m _ L S same);
+      cuts = broke_by (λ r. CutsChain layer E c.args.head c.args.count r X) c.from_residual.result p.0 p.1 (state_same self.opened m _ L S same);
       sound = synced_same m _ L same;
     }
 
@@ -55,13 +55,13 @@ returns-then-count-eq0 g c =
     let f = c.in_ok-found.ensures.told in
     let n = c.in_ok-found.found.units in
     let p = c.in_ok-found.found.place in
-    let I = mini self.open m L S in
-    let due = cut_no I 3 c.args.head _ (chain_here _ self.open m s L S few kept oks same _ c.args.head c.saturating_sub.result n p f.0 f.1) c.args.count
-    (⊎_elim (λ z. inl z) (λ z. inr (omega (arith, z.1, units_here _ self.open m s L S few kept oks same _ c.args.head c.saturating_sub.result n p f.0 f.1))) c.then-count-eq0.either) in
+    let I = mini self.opened m L S in
+    let due = cut_no I 3 c.args.head _ (chain_here _ self.opened m s L S few kept oks same _ c.args.head c.saturating_sub.result n p f.0 f.1) c.args.count
+    (⊎_elim (λ z. inl z) (λ z. inr (omega (arith, z.1, units_here _ self.opened m s L S few kept oks same _ c.args.head c.saturating_sub.result n p f.0 f.1))) c.then-count-eq0.either) in
     record {
       told = told_no c.fault.result (record { refusal = BadCount; layer = 3; place = c.args.head }) _ tt c.fault.ensures due;
-      left = left_no _ _ I _ _ due (mini_same self.open m _ L S same);
-      cuts = state_same self.open m _ L S same;
+      left = left_no _ _ I _ _ due (mini_same self.opened m _ L S same);
+      cuts = state_same self.opened m _ L S same;
       sound = synced_same m _ L same;
     }
 
@@ -81,13 +81,13 @@ cut-requires g c =
     let f = c.in_ok-found.ensures.told in
     let n = c.in_ok-found.found.units in
     let p = c.in_ok-found.found.place in
-    let a = found _ self.open m s L S few kept oks same _ c.args.head c.saturating_sub.result n p f.0 f.1 in
+    let a = found _ self.opened m s L S few kept oks same _ c.args.head c.saturating_sub.result n p f.0 f.1 in
     record {
-      sound = sound_now _ self.open m s L S few kept oks same _ c.args.head c.saturating_sub.result n p f.0 f.1 (c.look.ensures.hosted (sound_open _ self.open m s L S few kept oks same _ c.args.head c.saturating_sub.result n p f.0 f.1));
+      sound = sound_now _ self.opened m s L S few kept oks same _ c.args.head c.saturating_sub.result n p f.0 f.1 (c.look.ensures.hosted (sound_open _ self.opened m s L S few kept oks same _ c.args.head c.saturating_sub.result n p f.0 f.1));
       some = omega (arith, c.if-count-eq0.false);
       fewer = c.if-count-found.false;
       units = sym a.chained.path;
-      place = cut_place _ self.open m s L S few kept oks same _ c.args.head c.saturating_sub.result n p f.0 f.1 c.args.count c.saturating_sub.ensures c.if-count-eq0.false c.if-count-found.false;
+      place = cut_place _ self.opened m s L S few kept oks same _ c.args.head c.saturating_sub.result n p f.0 f.1 c.args.count c.saturating_sub.ensures c.if-count-eq0.false c.if-count-found.false;
     }
 
 pub returns : goal.returns
@@ -118,21 +118,21 @@ returns g c =
     let T = links_of x.table.stack in
     let K = links_of y.table.links in
     let R = links_of y.table.stack in
-    let I = mini self.open m L S in
-    let mid : State = record { opened = x.open; host = X; links = M; stack = T } in
+    let I = mini self.opened m L S in
+    let mid : State = record { opened = x.opened; host = X; links = M; stack = T } in
     let k = c.args.count in
-    let a = found _ self.open m s L S few kept oks same _ c.args.head c.saturating_sub.result n p f.0 f.1 in
-    let e = means _ self.open m s L S few kept oks same _ c.args.head c.saturating_sub.result n p f.0 f.1 in
-    let place = cut_place _ self.open m s L S few kept oks same _ c.args.head c.saturating_sub.result n p f.0 f.1 k c.saturating_sub.ensures c.if-count-eq0.false c.if-count-found.false in
-    let z = cut_yes _ layer X Y M T K R okx oky h.1 (few_of x.table.links) (kept_of x.table) (few_of y.table.links) (kept_of y.table) h.2 tr.0 c.trim.ensures.same x.open y.open h.0 tr.1 I (stored (web_of s L S)) e c.args.head _ a.chained.chain k n c.if-count-eq0.false c.if-count-found.false (sym a.chained.units) c.cut.ensures.means in
+    let a = found _ self.opened m s L S few kept oks same _ c.args.head c.saturating_sub.result n p f.0 f.1 in
+    let e = means _ self.opened m s L S few kept oks same _ c.args.head c.saturating_sub.result n p f.0 f.1 in
+    let place = cut_place _ self.opened m s L S few kept oks same _ c.args.head c.saturating_sub.result n p f.0 f.1 k c.saturating_sub.ensures c.if-count-eq0.false c.if-count-found.false in
+    let z = cut_yes _ layer X Y M T K R okx oky h.1 (few_of x.table.links) (kept_of x.table) (few_of y.table.links) (kept_of y.table) h.2 tr.0 c.trim.ensures.same x.opened y.opened h.0 tr.1 I (stored (web_of s L S)) e c.args.head _ a.chained.chain k n c.if-count-eq0.false c.if-count-found.false (sym a.chained.units) c.cut.ensures.means in
     record {
       told = z.0;
       left = z.1;
       cuts = (
         mid,
-        h.0 ∙ sym (sound_open _ self.open m s L S few kept oks same _ c.args.head c.saturating_sub.result n p f.0 f.1),
+        h.0 ∙ sym (sound_open _ self.opened m s L S few kept oks same _ c.args.head c.saturating_sub.result n p f.0 f.1),
         c.cut.ensures.left ∙ (λ i. shortened ended_mini gave_mini k (sym a.chained.path i) (web_of (same i) L S) (place i)),
         tr,
       );
-      sound = λ q. trim_synced _ layer X Y M T K R okx oky h.1 (few_of x.table.links) (kept_of x.table) (few_of y.table.links) (kept_of y.table) h.2 tr.0 c.trim.ensures.same x.open y.open h.0 tr.1 (c.cut.ensures.keeps (synced_same m s L same q));
+      sound = λ q. trim_synced _ layer X Y M T K R okx oky h.1 (few_of x.table.links) (kept_of x.table) (few_of y.table.links) (kept_of y.table) h.2 tr.0 c.trim.ensures.same x.opened y.opened h.0 tr.1 (c.cut.ensures.keeps (synced_same m s L same q));
     }

@@ -21,8 +21,8 @@ returns-in-Some g c =
     let ok = g.H.ChainStore.lawful self.host in
     let L = links_of self.table.links in
     let S = links_of self.table.stack in
-    let st = standing _ m ok L S (few_of self.table.links) (kept_of self.table) self.open _ (sym c.in-Some.ensures.told) in
+    let st = standing _ m ok L S (few_of self.table.links) (kept_of self.table) self.opened _ (sym c.in-Some.ensures.told) in
     record {
       told = (λ i. (c.free.ensures.told ∙ stack_count L S (kept_of self.table)) i + (c.growth.ensures ∙ ap growth st.ground) i) ∙ sym (ap (λ (z : Store). z.room) st.means);
-      left = state_same self.open m _ L S c.figures.ensures.left;
+      left = state_same self.opened m _ L S c.figures.ensures.left;
     }

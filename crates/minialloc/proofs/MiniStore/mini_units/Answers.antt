@@ -20,9 +20,9 @@ returns-in_err-found g c =
     let same = c.look.ensures.left in
     let p = err_from_is_err_and c.from_residual.result c.from_residual.ensures.1 in
     record {
-      told = not_head (mini self.open m L S) c.args.head (chain_none _ m (g.H.ChainStore.lawful self.host) L S (few_of self.table.links) (kept_of self.table) self.open c.args.head f.1) None _
+      told = not_head (mini self.opened m L S) c.args.head (chain_none _ m (g.H.ChainStore.lawful self.host) L S (few_of self.table.links) (kept_of self.table) self.opened c.args.head f.1) None _
           c.from_residual.result p.0 p.1 (p.2 ∙ f.0);
-      left = state_same self.open m _ L S same;
+      left = state_same self.opened m _ L S same;
     }
 
 pub returns : goal.returns
@@ -33,9 +33,9 @@ returns g c =
     let S = links_of self.table.stack in
     let f = c.in_ok-found.ensures.told in
     let same = c.look.ensures.left in
-    let a = along _ m (g.H.ChainStore.lawful self.host) L S (few_of self.table.links) (kept_of self.table) self.open _ c.args.head 0 _ _ f.0 f.1 in
-    let M = mini self.open m L S in
+    let a = along _ m (g.H.ChainStore.lawful self.host) L S (few_of self.table.links) (kept_of self.table) self.opened _ c.args.head 0 _ _ f.0 f.1 in
+    let M = mini self.opened m L S in
     record {
       told = ap Ok (sym a.told) ∙ told_yes _ (units_of M c.args.head) (some_due M 3 c.args.head _ a.chain None);
-      left = state_same self.open m _ L S same;
+      left = state_same self.opened m _ L S same;
     }

@@ -19,13 +19,13 @@ returns-in_err-found g c =
     let S = links_of self.table.stack in
     let f = c.in_err-found.ensures.told in
     let same = c.look.ensures.left in
-    let M = mini self.open m L S in
-    let none = chain_none _ m ok L S (few_of self.table.links) (kept_of self.table) self.open c.args.head f.1 in
+    let M = mini self.opened m L S in
+    let none = chain_none _ m ok L S (few_of self.table.links) (kept_of self.table) self.opened c.args.head f.1 in
     let p = err_from_is_err_and c.from_residual.result c.from_residual.ensures.1 in
     record {
       told = not_head M c.args.head none _ _ c.from_residual.result p.0 p.1 (p.2 ∙ f.0);
       out = not_head_left M c.args.head none _ c.args.out.now _ c.args.out.now refl;
-      left = state_same self.open m _ L S same;
+      left = state_same self.opened m _ L S same;
     }
 
 pub returns-then-not-holds : goal.returns-then-not-holds
@@ -46,9 +46,9 @@ returns-then-not-holds g c =
     let end = c.args.at + length c.args.out.now in
     let past : n * 64 < end = leb-false end (n * 64) (sym c.holds.ensures ∙ c.if-not-holds.true) in
     record {
-      told = past_told _ self.open m s L S few kept oks same _ c.args.head 0 n p f.0 f.1 end past c.fault.result c.fault.ensures tt;
-      out = past_left _ self.open m s L S few kept oks same _ c.args.head 0 n p f.0 f.1 end past c.fault.result c.fault.ensures c.args.out.now _ c.args.out.now refl;
-      left = state_same self.open m _ L S same;
+      told = past_told _ self.opened m s L S few kept oks same _ c.args.head 0 n p f.0 f.1 end past c.fault.result c.fault.ensures tt;
+      out = past_left _ self.opened m s L S few kept oks same _ c.args.head 0 n p f.0 f.1 end past c.fault.result c.fault.ensures c.args.out.now _ c.args.out.now refl;
+      left = state_same self.opened m _ L S same;
     }
 
 pub read_chain-requires : goal.read_chain-requires
@@ -68,9 +68,9 @@ read_chain-requires g c =
     let p = c.in_ok-found.found.place in
     let within : c.args.at + length c.args.out.now ≤ n * 64 = leb-true _ _ (sym c.holds.ensures ∙ c.if-not-holds.false) in
     record {
-      sound = sound_now _ self.open m s L S few kept oks same _ c.args.head 0 n p f.0 f.1 (c.look.ensures.hosted (sound_open _ self.open m s L S few kept oks same _ c.args.head 0 n p f.0 f.1));
-      whole = copy_whole _ self.open m s L S few kept oks same _ c.args.head 0 n p f.0 f.1 c.args.at (length c.args.out.now) within;
-      fits = copy_fits _ self.open m s L S few kept oks same _ c.args.head 0 n p f.0 f.1 c.args.at (length c.args.out.now) within;
+      sound = sound_now _ self.opened m s L S few kept oks same _ c.args.head 0 n p f.0 f.1 (c.look.ensures.hosted (sound_open _ self.opened m s L S few kept oks same _ c.args.head 0 n p f.0 f.1));
+      whole = copy_whole _ self.opened m s L S few kept oks same _ c.args.head 0 n p f.0 f.1 c.args.at (length c.args.out.now) within;
+      fits = copy_fits _ self.opened m s L S few kept oks same _ c.args.head 0 n p f.0 f.1 c.args.at (length c.args.out.now) within;
     }
 
 pub returns : goal.returns
@@ -91,10 +91,10 @@ returns g c =
     let within : c.args.at + length c.args.out.now ≤ n * 64 = leb-true _ _ (sym c.holds.ensures ∙ c.if-not-holds.false) in
     let after = c.read_chain.new.s in
     let h = c.read_chain.ensures.sound in
-    let y = read_yes _ self.open m s L S few kept oks same _ c.args.head 0 n p f.0 f.1 c.args.at c.args.out.now c.read_chain.new.out within c.read_chain.ensures.read in
+    let y = read_yes _ self.opened m s L S few kept oks same _ c.args.head 0 n p f.0 f.1 c.args.at c.args.out.now c.read_chain.new.out within c.read_chain.ensures.read in
     record {
       told = y.0;
       out = y.1;
-      left = read_left _ self.open m s L S few kept oks same _ c.args.head 0 n p f.0 f.1 (g.H.ChainStore.meaning after.host) (links_of after.table.links) (links_of after.table.stack) after.open (g.H.ChainStore.lawful after.host) h.0 h.2
+      left = read_left _ self.opened m s L S few kept oks same _ c.args.head 0 n p f.0 f.1 (g.H.ChainStore.meaning after.host) (links_of after.table.links) (links_of after.table.stack) after.opened (g.H.ChainStore.lawful after.host) h.0 h.2
           (few_of after.table.links) (kept_of after.table) c.read_chain.ensures.same;
     }

@@ -21,15 +21,15 @@ returns-in_err-found g c =
     let S = links_of self.table.stack in
     let f = c.in_err-found.ensures.told in
     let same = c.look.ensures.left in
-    let M = mini self.open m L S in
-    let none = chain_none _ m ok L S (few_of self.table.links) (kept_of self.table) self.open c.args.head f.1 in
+    let M = mini self.opened m L S in
+    let none = chain_none _ m ok L S (few_of self.table.links) (kept_of self.table) self.opened c.args.head f.1 in
     let p = err_from_is_err_and c.from_residual.result c.from_residual.ensures.1 in
-    let E : State = record { opened = self.open; host = m; links = L; stack = S } in
-    let X : State = record { opened = self.open; host = g.H.ChainStore.meaning c.look.new.host; links = L; stack = S } in
+    let E : State = record { opened = self.opened; host = m; links = L; stack = S } in
+    let X : State = record { opened = self.opened; host = g.H.ChainStore.meaning c.look.new.host; links = L; stack = S } in
     record {
       told = not_head M c.args.head none _ _ c.from_residual.result p.0 p.1 (p.2 ∙ f.0);
-      left = not_head_left M c.args.head none _ M _ _ (mini_same self.open m _ L S same);
-      writes = broke_by (λ r. Writes E c.args.head c.args.at c.args.src.now r X) c.from_residual.result p.0 p.1 (state_same self.open m _ L S same);
+      left = not_head_left M c.args.head none _ M _ _ (mini_same self.opened m _ L S same);
+      writes = broke_by (λ r. Writes E c.args.head c.args.at c.args.src.now r X) c.from_residual.result p.0 p.1 (state_same self.opened m _ L S same);
       sound = synced_same m _ L same;
     }
 
@@ -51,9 +51,9 @@ returns-then-not-holds g c =
     let end = c.args.at + length c.args.src.now in
     let past : n * 64 < end = leb-false end (n * 64) (sym c.holds.ensures ∙ c.if-not-holds.true) in
     record {
-      told = past_told _ self.open m s L S few kept oks same _ c.args.head 0 n p f.0 f.1 end past c.fault.result c.fault.ensures tt;
-      left = past_left _ self.open m s L S few kept oks same _ c.args.head 0 n p f.0 f.1 end past c.fault.result c.fault.ensures (mini self.open m L S) _ _ (mini_same self.open m s L S same);
-      writes = state_same self.open m _ L S same;
+      told = past_told _ self.opened m s L S few kept oks same _ c.args.head 0 n p f.0 f.1 end past c.fault.result c.fault.ensures tt;
+      left = past_left _ self.opened m s L S few kept oks same _ c.args.head 0 n p f.0 f.1 end past c.fault.result c.fault.ensures (mini self.opened m L S) _ _ (mini_same self.opened m s L S same);
+      writes = state_same self.opened m _ L S same;
       sound = synced_same m _ L same;
     }
 
@@ -74,9 +74,9 @@ write_chain-requires g c =
     let p = c.in_ok-found.found.place in
     let within : c.args.at + length c.args.src.now ≤ n * 64 = leb-true _ _ (sym c.holds.ensures ∙ c.if-not-holds.false) in
     record {
-      sound = sound_now _ self.open m s L S few kept oks same _ c.args.head 0 n p f.0 f.1 (c.look.ensures.hosted (sound_open _ self.open m s L S few kept oks same _ c.args.head 0 n p f.0 f.1));
-      whole = copy_whole _ self.open m s L S few kept oks same _ c.args.head 0 n p f.0 f.1 c.args.at (length c.args.src.now) within;
-      fits = copy_fits _ self.open m s L S few kept oks same _ c.args.head 0 n p f.0 f.1 c.args.at (length c.args.src.now) within;
+      sound = sound_now _ self.opened m s L S few kept oks same _ c.args.head 0 n p f.0 f.1 (c.look.ensures.hosted (sound_open _ self.opened m s L S few kept oks same _ c.args.head 0 n p f.0 f.1));
+      whole = copy_whole _ self.opened m s L S few kept oks same _ c.args.head 0 n p f.0 f.1 c.args.at (length c.args.src.now) within;
+      fits = copy_fits _ self.opened m s L S few kept oks same _ c.args.head 0 n p f.0 f.1 c.args.at (length c.args.src.now) within;
     }
 
 pub returns : goal.returns
@@ -102,10 +102,10 @@ returns g c =
     let M = links_of after.table.links in
     let T = links_of after.table.stack in
     let w = c.write_chain.ensures.wrote in
-    let y = write_yes _ self.open m s L S few kept oks same _ c.args.head 0 n p f.0 f.1 u M T after.open oku h.0 h.2 (few_of after.table.links) (kept_of after.table) c.args.at c.args.src.now w within in
+    let y = write_yes _ self.opened m s L S few kept oks same _ c.args.head 0 n p f.0 f.1 u M T after.opened oku h.0 h.2 (few_of after.table.links) (kept_of after.table) c.args.at c.args.src.now w within in
     record {
       told = y.0;
       left = y.1;
-      writes = write_writes _ self.open m s L S few kept oks same _ c.args.head 0 n p f.0 f.1 u M T after.open oku h.0 h.2 (few_of after.table.links) (kept_of after.table) c.args.at c.args.src.now w;
-      sound = write_sound _ self.open m s L S few kept oks same _ c.args.head 0 n p f.0 f.1 u M T after.open oku h.0 h.2 (few_of after.table.links) (kept_of after.table) c.args.at c.args.src.now w;
+      writes = write_writes _ self.opened m s L S few kept oks same _ c.args.head 0 n p f.0 f.1 u M T after.opened oku h.0 h.2 (few_of after.table.links) (kept_of after.table) c.args.at c.args.src.now w;
+      sound = write_sound _ self.opened m s L S few kept oks same _ c.args.head 0 n p f.0 f.1 u M T after.opened oku h.0 h.2 (few_of after.table.links) (kept_of after.table) c.args.at c.args.src.now w;
     }

@@ -19,5 +19,5 @@ returns g c =
     record {
       read = c.read_stream.ensures.out ∙ ap (λ p. read_into m layer (stream_at m) (p * 64 + c.args.at) out) e ∙ read_of_unit m layer c.args.place c.args.at c.requires.unit out c.requires.inside;
       same = ap (λ s. viewed (web_of s (links_of self.table.links) (links_of self.table.stack))) same;
-      sound = sound_same m _ self.open _ same c.requires.sound;
+      sound = sound_same m _ self.opened _ same c.requires.sound;
     }
