@@ -104,7 +104,8 @@ impl Stacked {
         Some(link)
     }
 
-    // Makes a place FREE that no link points to, lays it on the stack, and tells the link that was there.
+    // Makes a place FREE that no link points to, lays it on the stack, and tells the link that was there. Called by a mini
+    // store alone, when the shared text of chains has it give back the first unit of a chain.
     pub fn give_back(&mut self, place: u32) -> u32
         requires used { at (links_of self.old.links) place ≢ FREE }
         requires first { (q : ℕ) → at (links_of self.old.links) q ≢ place }
