@@ -46,9 +46,6 @@ kept_laid L c =
 abbrev pub Laying : List ℕ → ℕ → List ℕ → Type 0
 Laying L n S = S ≡ filter (λ p. links.free (at L p)) (take n (range_with_len 0 (length L)))
 
-pub laying_none : (L : List ℕ) → Laying L 0 []
-laying_none L = refl
-
 module _ (L S S' : List ℕ) (n v : ℕ) (h : Laying L n S) (l : n < length L) (e : v ≡ at L n) where
   step : (b : Bool) → links.free (at L n) ≡ b → S ++ cond b (n ∷ []) [] ≡ filter (λ p. links.free (at L p)) (take (n + 1) (range_with_len 0 (length L)))
   step b t =

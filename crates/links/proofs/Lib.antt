@@ -7,7 +7,6 @@ pub mod Layings
 pub mod Lookups
 pub mod Members
 pub mod Paths
-pub mod Prefix
 pub mod Stacks
 pub mod Tables
 pub mod Takings

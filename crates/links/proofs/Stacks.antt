@@ -1,7 +1,7 @@
 -- A checked table and the stack of its FREE places: as it is meant, as the ghost fields have it, and over a change of a link.
 -- Assumes nothing.
 use Rattle.std.proofs.Common.{◌≡◌, ℕ, ◌<◌, ◌≤◌, Bool, true, cond, not, eqb, ltb, ◌≢◌, List, [], ◌∷◌, ◌++◌, length, set, replicate, is_ok, Ok, Err, Result, sym, refl, ap, ◌∙◌, inl, inr, ⊎_elim, arith}
-use Rattle.std.proofs.lemmas.List.{length-set, length-take, length_push, get_or-set_same, get_or-set_other, get_or_push, get_or_append_left, get_or-replicate, length-replicate}
+use Rattle.std.proofs.lemmas.List.{length-set, length_push, get_or-set_same, get_or-set_other, get_or_push, get_or_append_left, get_or-replicate, length-replicate}
 use Rattle.std.proofs.lemmas.List.Sums.{count_by-le-length}
 use Rattle.std.proofs.lemmas.Bool.{cases_eq, cases_lt, cases_Bool, both_ways, false≢true, lt-ltb, ltb-true, eqb-true, eq-eqb, and_parts, and_from, or_left, or_right, or_cases, not-true, not_from_false}
 use Rattle.links.specs.Links.{FREE, END, live, at, In, Apart, Checked}
@@ -100,7 +100,7 @@ pub record Kept (L S : List ℕ) : Type 0 where
 
 -- the same, computed, as the ghost fields have it
 abbrev pub Told : List ℕ → List ℕ → Type 0
-Told L S = (is_ok (verdict L) ≡ true) × ((single S ≡ true) × (((p : ℕ) → holds p S ≡ vacant L p) × Unit {0}))
+Told L S = record { checked : is_ok (verdict L) ≡ true; once : single S ≡ true; stacked : (p : ℕ) → holds p S ≡ vacant L p }
 
 accepted : (r : Result Unit LinkFault) → is_ok r ≡ true → r ≡ Ok tt
 accepted (Ok tt) e = refl
@@ -119,7 +119,7 @@ kept_told L S checked once stacked = record {
 }
 
 pub told_kept : (L S : List ℕ) → Kept L S → Told L S
-told_kept L S k = (ap is_ok ((decides L).1 k.checked), (apart_single S k.stacks.apart, (stacked, tt)))
+told_kept L S k = record { checked = ap is_ok ((decides L).1 k.checked); once = apart_single S k.stacks.apart; stacked = stacked }
   where
     here : (p : ℕ) → holds p S ≡ true → vacant L p ≡ true
     here p t =
@@ -139,7 +139,7 @@ pub kept_of : (s : Stacked) → Kept (links_of s.links) (links_of s.stack)
 kept_of s = kept_told _ _ s.checked s.once s.stacked
 
 pub few_of : (t : Links) → length (links_of t) ≤ 4096
-few_of t = omega (arith, length-take t.count t.links, t.few)
+few_of t = t.few
 
 -- a chain is cut off
 pub kept_cut : (L S L' : List ℕ) (p v : ℕ) → Kept L S → v ≡ at L p → v ≢ FREE → L' ≡ set L p END → Kept L' S
@@ -175,8 +175,8 @@ stacks_room L S p k n =
 
 -- the same by what the calls tell
 pub given_back : (L S L' S' : List ℕ) (p : ℕ) (b : Bool) → length L ≤ 4096 → Kept L S → at L p ≢ FREE → ((q : ℕ) → at L q ≢ p)
-    → b ≡ ltb (length S) 4096 → L' ≡ set L p FREE → S' ≡ cond b (S ++ p ∷ []) S → Kept L' S' × (S' ≡ S ++ p ∷ [])
+    → b ≡ ltb (length S) 4096 → L' ≡ set L p FREE → S' ≡ cond b (S ++ p ∷ []) S → Kept L' S'
 given_back L S L' S' p b few k n first told table places =
     let y = told ∙ lt-ltb (length S) 4096 (omega (arith, stacks_room L S p k n)) in
     let e : S' ≡ S ++ p ∷ [] = rw y at places in
-    (rw (table, e) (kept_given L S p k n first), e)
+    rw (table, e) (kept_given L S p k n first)

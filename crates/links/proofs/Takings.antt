@@ -1,6 +1,7 @@
 -- A FREE place is taken, and put behind another.
 -- Assumes nothing.
 use Rattle.std.proofs.Common.{◌≡◌, ℕ, ◌-◌, ◌<◌, ◌≤◌, Bool, true, false, cond, ltb, ◌≢◌, List, [], ◌∷◌, ◌++◌, length, set, Some, None, Option, sym, refl, ap, ◌∙◌, subst, ⊎_elim, arith}
+use Rattle.std.specs.Bool.{then_some}
 use Rattle.std.specs.List.{slice_get}
 use Rattle.std.proofs.lemmas.List.{take_all, take_at, take_more, length_push, get_or_past}
 use Rattle.std.proofs.lemmas.Bool.{cases_Bool, ltb-true}
@@ -38,24 +39,26 @@ taken_push L [] p = refl
 taken_push L (x ∷ T) p = ap (λ q. set L q END) (last_or_push x p T)
 
 -- a place was taken, or none could be
-pub record Took (L S L' S' : List ℕ) (r : Option ℕ) : Type 0 where
-  pub told : r ≡ cond (has_room L S) (Some (place_after L S)) None
-  pub table : L' ≡ cond (has_room L S) (links_taken L S) L
-  pub places : S' ≡ stack_taken S
-  pub kept : Kept L' S'
+abbrev pub Took : List ℕ → List ℕ → List ℕ → List ℕ → Option ℕ → Type 0
+Took L S L' S' r = record {
+  told : r ≡ cond (has_room L S) (Some (place_after L S)) None;
+  table : L' ≡ cond (has_room L S) (links_taken L S) L;
+  places : S' ≡ stack_taken S;
+} × Kept L' S'
 
 took_last : (L T : List ℕ) (p : ℕ) → length L ≤ 4096 → Kept L (T ++ p ∷ []) → Took L (T ++ p ∷ []) (set L p END) T (Some p)
 took_last L T p few k =
-    let f = k.stacks.free p (in_mid p T []) in
-    record {
-      told = rw (room_push L T p) (ap Some (sym (last_or_push (length L) p T)));
-      table = rw (room_push L T p) (sym (taken_push L T p));
-      places = sym (take_at T (p ∷ []) _ (omega (arith, length_push T p)));
-      kept = record {
+    let f = k.stacks.free p (in_mid p T []) in (
+      record {
+        told = rw (room_push L T p) (ap Some (sym (last_or_push (length L) p T)));
+        table = rw (room_push L T p) (sym (taken_push L T p));
+        places = sym (take_at T (p ∷ []) _ (omega (arith, length_push T p)));
+      },
+      record {
         checked = (take-one (at L) _ p k.checked (omega (arith, f.0)) f.1 (wrote-set L p END f.0)).checked;
         stacks = stacks_taken L T p k.stacks;
-      };
-    }
+      },
+    )
 
 -- from the stack
 pub took_popped : (L S L' S' : List ℕ) (p : ℕ) → length L ≤ 4096 → Kept L S
@@ -66,35 +69,27 @@ took_popped L S L' S' p few k h s t = go (stack_taken S) (last_of S p h) s
     go T f g = rw (f, g, t) (took_last L T p few (rw f at k))
 
 took_pushed : (L : List ℕ) (b : Bool) → Kept L [] → b ≡ ltb (length L) 4096
-    → Took L [] (cond b (L ++ END ∷ []) L) [] (cond b (Some (length L)) None)
-took_pushed L true k e = record {
-  told = rw (← e);
-  table = rw (← e);
-  places = refl;
-  kept = record {
+    → Took L [] (cond b (L ++ END ∷ []) L) [] (then_some b (length L))
+took_pushed L true k e = (
+  record { told = rw (← e); table = rw (← e); places = refl },
+  record {
     checked = (grow L k.checked (omega (arith, ltb-true (length L) 4096 (sym e)))).checked;
     stacks = stacks_grown L [] END (omega arith) k.stacks;
-  };
-}
-took_pushed L false k e = record { told = rw (← e); table = rw (← e); places = refl; kept = k }
+  },
+)
+took_pushed L false k e = (record { told = rw (← e); table = rw (← e); places = refl }, k)
 
 -- or behind the last link, where there is room
 module _ (L S L' S' : List ℕ) (b : Bool) (k : Kept L S) (h : None ≡ slice_get S (length S - 1)) (s : S' ≡ stack_taken S)
     (t : b ≡ ltb (length L) 4096) (u : L' ≡ cond b (L ++ END ∷ []) L) where
-  took_grown : (r : Option ℕ) → r ≡ cond b (Some (length L)) None → Took L S L' S' r
-  took_grown r v =
+  pub took_grown : (p : ℕ) (r : Option ℕ) → p ≡ length L → r ≡ then_some b p → Took L S L' S' r
+  took_grown p r e v =
       let f = nil_of S (omega (arith, no_link S (length S - 1) h)) in
       let g : S' ≡ [] = rw f at s in
-      rw (f, g, u, v) (took_pushed L b (rw f at k) t)
+      rw (f, g, u, v, e) (took_pushed L b (rw f at k) t)
 
   pub took_kept : Kept L' S'
-  took_kept = (took_grown _ refl).kept
-
-  pub took_yes : (p : ℕ) → p ≡ length L → b ≡ true → Took L S L' S' (Some p)
-  took_yes p e y = took_grown (Some p) (rw (e, y))
-
-  pub took_no : b ≡ false → Took L S L' S' None
-  took_no n = took_grown None (rw n)
+  took_kept = (took_grown _ _ refl refl).1
 
 -- a list that is not empty, by its last element
 snoc : (x : ℕ) (S : List ℕ) → (T : List ℕ) × (p : ℕ) × (x ∷ S ≡ T ++ p ∷ [])

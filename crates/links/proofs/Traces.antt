@@ -1,15 +1,15 @@
 -- A walk computes the path, and a test decides what is a head.
 -- Assumes nothing.
-use Rattle.std.proofs.Common.{◌≡◌, ℕ, zero, suc, ◌+◌, ◌-◌, ◌<◌, ◌≤◌, min, Bool, true, false, cond, not, eqb, ltb, ◌≢◌, ◌⊎◌, ◌↔◌, List, [], ◌∷◌, length, drop, is_some, Some, None, Option, sym, refl, ap, ◌∙◌, inl, inr, ⊎_elim, arith}
-use Rattle.std.specs.List.{slice_get}
+use Rattle.std.proofs.Common.{◌≡◌, ℕ, zero, suc, ◌+◌, ◌-◌, ◌<◌, ◌≤◌, min, Bool, true, false, cond, not, eqb, ltb, ◌≢◌, ◌||◌, ◌⊎◌, ◌↔◌, List, [], ◌∷◌, length, Some, None, Option, sym, refl, ap, ◌∙◌, inl, inr, ⊎_elim, arith}
+use Rattle.std.specs.List.{slice_get, list_any, range_with_len}
+use Rattle.std.specs.Bool.{then_some}
 use Rattle.std.specs.Option.{option_map}
-use Rattle.std.proofs.lemmas.List.{at_drop_more, at_drop_all}
-use Rattle.std.proofs.lemmas.Bool.{cases_lt, false≢true, and_left, and_right, not_from_true, eqb-true, eqb-false, eq-eqb, ne_eqb, ltb-true, lt-ltb, le-ltb, and_parts, and_from, or_parts, or_from, or_left, not-true, not_from_false}
-use Rattle.links.specs.Links.{FREE, END, POINTERS, at, Path, Head, IsHead, Units}
+use Rattle.std.proofs.lemmas.Bool.{cases_lt, and_left, and_right, not_from_true, eqb-true, eqb-false, eq-eqb, ne_eqb, ltb-true, lt-ltb, le-ltb, and_parts, and_from, or_parts, or_from, not-true, not_from_false}
+use Rattle.links.specs.Links.{END, POINTERS, at, Path, Head, Units}
 use Rattle.links.specs.declared.walks.Surveyed.{Surveyed}
 use Rattle.links.specs.Walk.{stop, trace, last_or, reach, holds, headed, chain_of, surveyed}
 use Rattle.links.proofs.Counts.{inside, path_short}
-use Rattle.links.proofs.Lookups.{some_link, no_link}
+use Rattle.links.proofs.Lookups.{some_link}
 use Rattle.links.proofs.Paths.{used}
 
 module _ (L : List ℕ) (few : length L ≤ 4096) where
@@ -98,37 +98,15 @@ left_more L most done v w next s n z l e h =
       ends = rw f.1 (sym (last_more (most - (done + 1)) L v w f.0) ∙ rw k at h.ends);
     }
 
-pub left_none : (L : List ℕ) (most done v w s n z : ℕ) → None ≡ slice_get L v → Left L most done v w s n z → (done ≡ n) × (v ≡ s) × (w ≡ z)
-left_none L most done v w s n z e h =
-    let p = walk_past (most - done) L v (no_link L v e) in
-    (omega (arith, ap length p.1, h.meets), sym p.0 ∙ h.stops, sym (ap (last_or w) p.1) ∙ h.ends)
+-- a link is found by going over the places
+any_from : (p a : ℕ) (f : ℕ → ℕ) (L : List ℕ) → ((k : ℕ) → f (a + k) ≡ at L k) → list_any (λ k. eqb (f k) p) (range_with_len a (length L)) ≡ holds p L
+any_from p a f [] h = refl
+any_from p a f (x ∷ L) h =
+    ap (λ y. eqb y p || list_any (λ k. eqb (f k) p) (range_with_len (a + 1) (length L))) (ap f (omega arith) ∙ h 0)
+    ∙ ap (λ b. eqb x p || b) (any_from p (a + 1) f L (λ k. ap f (omega arith) ∙ h (suc k)))
 
-pub left_all : (L : List ℕ) (most done v w s n z : ℕ) → most ≤ done → Left L most done v w s n z → (done ≡ n) × (v ≡ s) × (w ≡ z)
-left_all L most done v w s n z l h =
-    let k : most - done ≡ 0 = omega arith in
-    let t = rw k at h.meets in
-    (omega arith, rw k at h.stops, rw k at h.ends)
-
-pub left_start : (L : List ℕ) (most v : ℕ) → Left L most 0 v v (stop most L v) (length (trace most L v)) (last_or v (trace most L v))
-left_start L most v =
-    let k : most - 0 ≡ most = omega arith in
-    record {
-      some = omega arith;
-      stops = ap (λ m. stop m L v) k;
-      meets = omega (arith, ap (λ m. length (trace m L v)) k);
-      ends = ap (λ m. last_or v (trace m L v)) k;
-    }
-
--- the steps of a search for a link, rising
-module _ (L : List ℕ) (p i : ℕ) (inv : holds p (drop i L) ≡ holds p L) where
-  pub holds_here : (v : ℕ) → i < length L → v ≡ at L i → v ≡ p → true ≡ holds p L
-  holds_here v l e h = sym (at_drop_more (holds p) L i FREE l ∙ or_left _ _ (eq-eqb (at L i) p (sym e ∙ h))) ∙ inv
-
-  pub holds_more : (v : ℕ) → i < length L → v ≡ at L i → v ≢ p → holds p (drop (i + 1) L) ≡ holds p L
-  holds_more v l e n = sym (at_drop_more (holds p) L i FREE l ∙ rw (ne_eqb (at L i) p (λ h. n (e ∙ h)))) ∙ inv
-
-  pub holds_all : length L ≤ i → false ≡ holds p L
-  holds_all l = sym (at_drop_all (holds p) L i l) ∙ inv
+pub any_at : (L : List ℕ) (p : ℕ) → list_any (λ k. eqb (at L k) p) (range_with_len 0 (length L)) ≡ holds p L
+any_at L p = any_from p 0 (at L) L (λ k. ap (at L) (omega arith))
 
 -- a walk from p as long as the table met n places and stopped at s
 pub record Whole (L : List ℕ) (p n s : ℕ) : Type 0 where
@@ -159,9 +137,6 @@ module _ (L : List ℕ) (p n s : ℕ) (w : Whole L p n s) where
 
   pub is_headed : n ≢ 0 → s ≡ END → false ≡ holds p L → headed L p ≡ true
   is_headed h e k = and_from _ _ (and_from _ _ (lt-ltb p (length L) (met_some h)) (eq-eqb _ END (sym w.stops ∙ e))) (not_from_false _ (sym k))
-
-  pub units_some : n ≢ 0 → s ≡ END → false ≡ holds p L → Some n ≡ option_map length (chain_of L p)
-  units_some h e k = rw (is_headed h e k) (ap Some w.places)
 
 pub trace_short : (m : ℕ) (L : List ℕ) (v : ℕ) → length (trace m L v) ≤ m
 trace_short zero L v = omega arith
@@ -299,25 +274,15 @@ units_means L p r few e = rw e (go (chain_of L p) (chain_head L few p))
     go None h = λ k. let f = (h k.0).1 k.1 in let z : ◌≡◌ {A = ℕ} 0 1 = cc in omega arith
     go (Some ps) h = (ps, (h ps).0 refl, refl)
 
-pub head_means : (L : List ℕ) (p : ℕ) (o : Option ℕ) (r : Bool) → o ≡ option_map length (chain_of L p) → Units (at L) p o → r ≡ is_some o
-    → (r ≡ is_some (chain_of L p)) × ((r ≡ true) ↔ IsHead (at L) p)
-head_means L p o r e u f = (f ∙ ap is_some e ∙ some_mapped (chain_of L p), rw f (go o u))
-  where
-    some_mapped : (x : Option (List ℕ)) → is_some (option_map length x) ≡ is_some x
-    some_mapped None = refl
-    some_mapped (Some ps) = refl
-
-    go : (x : Option ℕ) → Units (at L) p x → (is_some x ≡ true) ↔ IsHead (at L) p
-    go None u = (λ e. absurd (false≢true e), λ h. absurd (u h))
-    go (Some n) u = (λ _. (u.0, u.1), λ _. refl)
-
 -- the same, of a walk of j steps that met n places and stopped at s
 module _ (m j : ℕ) (L : List ℕ) (v n s : ℕ) (places : n ≡ length (trace j L v)) (stops : s ≡ stop j L v) where
-  pub place_none : (n < j) ⊎ (length L ≤ s) → None ≡ slice_get (trace m L v) j
-  place_none h = sym (rank_none m j L v (⊎_elim (λ l. inl (omega arith)) (λ l. inr (omega arith)) h))
+  pub place_none : n ≢ j → None ≡ slice_get (trace m L v) j
+  place_none h = sym (rank_none m j L v (inl (omega (arith, trace_short j L v))))
 
-  pub place_some : j ≤ n → s < length L → j < m → Some s ≡ slice_get (trace m L v) j
-  place_some l i k = ap Some stops ∙ sym (rank_some m j L v (omega (arith, trace_short j L v)) (omega arith) k)
+  pub place_met : n ≡ j → j < m → then_some (ltb s (length L)) s ≡ slice_get (trace m L v) j
+  place_met e k = ⊎_elim
+      (λ l. rw (lt-ltb s (length L) l) (ap Some stops ∙ sym (rank_some m j L v (omega arith) (omega arith) k)))
+      (λ l. rw (le-ltb s (length L) l) (sym (rank_none m j L v (inr (omega arith))))) (cases_lt s (length L))
 
 pub place_past : (m j : ℕ) (L : List ℕ) (v : ℕ) → m ≤ j → None ≡ slice_get (trace m L v) j
 place_past m j L v l = sym (rank_past m j L v l)

@@ -1,8 +1,10 @@
 -- The check: the steps of its loop, and that it accepts exactly the checked tables.
 -- Assumes nothing.
-use Rattle.std.proofs.Common.{◌≡◌, ℕ, zero, suc, ◌+◌, ◌<◌, ◌≤◌, Bool, true, false, cond, ◌||◌, eqb, ◌≢◌, ◌↔◌, List, [], ◌∷◌, ◌++◌, length, get_or, take, set, replicate, Some, None, Ok, Err, Option, Result, sym, refl, ap, ◌∙◌, ⊎_elim, arith}
+use Rattle.std.proofs.Common.{◌≡◌, ℕ, zero, suc, ◌+◌, ◌<◌, ◌≤◌, Bool, true, false, cond, ◌||◌, eqb, ◌≢◌, ◌↔◌, List, length, get_or, take, set, replicate, Some, None, Ok, Err, Option, Result, sym, refl, ap, ◌∙◌, ⊎_elim, arith}
 use Rattle.std.proofs.lemmas.List.{get_or-replicate, get_or-set_same, get_or-set_other, get_or-take, get_or_past, length-take, length-set, take_more}
 use Rattle.std.proofs.lemmas.Bool.{cases_Bool, cases_eq, cases_lt, cases_order, eq-eqb, ne_eqb, lt-ltb, le-ltb, or_right}
+use Rattle.std.proofs.lemmas.List.Recursion.{or_push}
+use Rattle.std.proofs.Math.Bool.{or-false}
 use Rattle.links.specs.declared.checks.LinkFault.{LinkFault}
 use Rattle.links.specs.declared.checks.LinkFault.TheVariants.{Dangling, Shared}
 use Rattle.links.specs.Check.{place_of, fault_at, or_else, first_fault, answer, verdict, Lowest}
@@ -10,18 +12,6 @@ use Rattle.links.specs.Links.{FREE, POINTERS, at, Checked}
 use Rattle.links.specs.Walk.{holds}
 use Rattle.links.proofs.Counts.{inside}
 use Rattle.links.proofs.Traces.{none-holds, holds-none}
-
-holds_push : (k v : ℕ) (xs : List ℕ) → holds k (xs ++ v ∷ []) ≡ (holds k xs || eqb v k)
-holds_push k v [] = go (eqb v k)
-  where
-    go : (t : Bool) → (t || false) ≡ (false || t)
-    go true = refl
-    go false = refl
-holds_push k v (x ∷ xs) = go (holds_push k v xs) (eqb x k)
-  where
-    go : holds k (xs ++ v ∷ []) ≡ (holds k xs || eqb v k) → (t : Bool) → (t || holds k (xs ++ v ∷ [])) ≡ ((t || holds k xs) || eqb v k)
-    go r true = refl
-    go r false = r
 
 module _ (L : List ℕ) (p v : ℕ) (pointer : v < POINTERS) where
   -- v was met before p
@@ -113,15 +103,11 @@ looked_none L = record { clean = λ k l. absurd (omega arith); size = refl; mark
 clean_more : (L : List ℕ) (p : ℕ) → ((k : ℕ) → k < p → fault_at L k ≡ None) → fault_at L p ≡ None → (k : ℕ) → k < p + 1 → fault_at L k ≡ None
 clean_more L p h e k l = ⊎_elim (λ (s : k ≡ p). ap (fault_at L) s ∙ e) (λ s. h k (omega arith)) (cases_eq k p)
 
-or_false : (a b : Bool) → b ≡ false → (a || b) ≡ a
-or_false true b e = refl
-or_false false b e = e
-
 met_more : (L : List ℕ) (p k : ℕ) → p < length L → holds k (take (p + 1) L) ≡ (holds k (take p L) || eqb (at L p) k)
-met_more L p k i = ap (holds k) (take_more L p FREE i) ∙ holds_push k (at L p) (take p L)
+met_more L p k i = ap (holds k) (take_more L p FREE i) ∙ or_push (holds k) (λ x. eqb x k) refl (λ x xs. refl) (take p L) (at L p)
 
 met_same : (L : List ℕ) (p k : ℕ) → p < length L → at L p ≢ k → holds k (take (p + 1) L) ≡ holds k (take p L)
-met_same L p k i n = met_more L p k i ∙ or_false (holds k (take p L)) _ (ne_eqb (at L p) k n)
+met_same L p k i n = met_more L p k i ∙ rw (ne_eqb (at L p) k n) (or-false (holds k (take p L)))
 
 pub looked_skip : (L : List ℕ) (p : ℕ) (met : List Bool) → p < length L → Looked L p met → POINTERS ≤ at L p → Looked L (p + 1) met
 looked_skip L p met i h l = record {

@@ -1,6 +1,6 @@
 -- The check of a table: which fault a place has, and which place is the lowest that has one.
 -- Assumes nothing.
-use Rattle.std.specs.Prelude.{◌≡◌, ℕ, zero, suc, ◌<◌, cond, List, length, take, Some, None, Ok, Err, Option, Result, ◌==◌, nat_lt}
+use Rattle.std.specs.Prelude.{◌≡◌, ℕ, zero, suc, ◌<◌, cond, List, ◌++◌, length, codes, decimal, take, Some, None, Ok, Err, Option, Result, ◌==◌, nat_lt}
 use Rattle.links.specs.declared.checks.LinkFault.{LinkFault}
 use Rattle.links.specs.declared.checks.LinkFault.TheVariants.{Dangling, Shared}
 use Rattle.links.specs.Links.{FREE, POINTERS, at}
@@ -15,6 +15,15 @@ number_of (Shared p) = 7
 abbrev pub place_of : LinkFault → ℕ
 place_of (Dangling p) = p
 place_of (Shared p) = p
+
+-- why it is refused, in words
+abbrev pub reason : LinkFault → List ℕ
+reason (Dangling p) = codes "its pointer is past the table's end or leads to a FREE link"
+reason (Shared p) = codes "a lower place has the same pointer"
+
+-- what is printed of it
+abbrev pub fault_text : LinkFault → List ℕ
+fault_text f = codes "refused " ++ decimal (number_of f) ++ codes " place " ++ decimal (place_of f) ++ codes ": " ++ reason f
 
 -- a pointer v at the place p: 6 where it is not below the count or leads to a FREE link, else 7 where it was met before p
 abbrev pub pointer_fault : List ℕ → ℕ → ℕ → Option LinkFault

@@ -4,5 +4,6 @@ pub mod Check
 pub mod Held
 pub mod Links
 pub mod Stack
+pub mod Stacked
 pub mod Theory
 pub mod Walk

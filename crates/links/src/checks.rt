@@ -1,12 +1,13 @@
 //! The check that a table is to pass before its chains are used.
 
 ghost use Rattle.std.specs.Prelude.{◌≡◌, ℕ, ◌↔◌, Ok};
-ghost use Rattle.links.specs.Check.{number_of, place_of, verdict, Lowest};
+ghost use Rattle.links.specs.Check.{number_of, place_of, reason, verdict, Lowest};
 ghost use Rattle.links.specs.Links.{at, Checked};
 
 use crate::LinkTable;
-use crate::consts::{FREE_SECTOR, MAX_REGULAR_SECTOR};
+use crate::consts::{FREE_SECTOR, MAX_REGULAR_SECTOR, MOST_LINKS};
 use crate::walks::link_or_free;
+use std::fmt;
 
 // What is wrong at a place of a table.
 #[derive(Clone, Copy, PartialEq, Eq, Debug)]
@@ -33,9 +34,32 @@ impl LinkFault {
         ensures { result ≡ place_of self.now }
     {
         match self {
-            LinkFault::Dangling(place) => *place,
-            LinkFault::Shared(place) => *place,
+            LinkFault::Dangling(place) | LinkFault::Shared(place) => *place,
         }
+    }
+
+    // Why the place is refused, in words.
+    fn reason(&self) -> &'static str
+        ensures { result.now ≡ reason self.now }
+    {
+        match self {
+            LinkFault::Dangling(_) => "its pointer is past the table's end or leads to a FREE link",
+            LinkFault::Shared(_) => "a lower place has the same pointer",
+        }
+    }
+}
+
+impl fmt::Display for LinkFault {
+    ghost use Rattle.std.specs.Prelude.{Some};
+    ghost use Rattle.links.specs.Check.{fault_text};
+
+    ghost output = { λ fault. Some (fault_text fault) };
+
+    fn fmt<W: fmt::Write>(&self, f: &mut fmt::Formatter<W>) -> fmt::Result {
+        let number = self.number();
+        let place = self.place();
+        let reason = self.reason();
+        write!(f, "refused {number} place {place}: {reason}")
     }
 }
 
@@ -46,7 +70,7 @@ pub fn check<T: LinkTable>(table: &T) -> Result<(), LinkFault>
     ensures lowest { Lowest (T.links table.now) result }
     ensures decides { (result ≡ Ok tt) ↔ Checked (at (T.links table.now)) }
 {
-    let mut met = [false; 4096];
+    let mut met = [false; MOST_LINKS as usize];
     for place in 0..table.count() {
         let link = link_or_free(table, place);
         if link > MAX_REGULAR_SECTOR {

@@ -1,5 +1,6 @@
 //! The numbers that a link can be. 0 to 0xfffffffa are pointers: the number of the next place.
 //! The three numbers between the pointers and END are neither pointer, END nor FREE, and may stand in a table.
+// Kept: links are numbers and no enum, as a table is written back as it was read, and any number may stand in one.
 
 // The largest pointer.
 pub const MAX_REGULAR_SECTOR: u32 = 0xffff_fffa;

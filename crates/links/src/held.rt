@@ -2,99 +2,91 @@
 
 ghost use Rattle.std.specs.Prelude.{◌≡◌, ◌-◌, ◌≤◌, ltb, [], ◌∷◌, ◌++◌, length, take, if◌then◌else◌, filter, nat_lt};
 ghost use Rattle.std.specs.List.{slice_get};
+ghost use Rattle.arrayvec.specs.ArrayVec.{array_vec_len};
 
 use crate::LinkTable;
-use crate::consts::{FREE_SECTOR, MOST_LINKS};
+use arrayvec::ArrayVec;
+use std::alloc::AllocError;
 
-// Its links are the first `count` of the array; what lies behind them means nothing.
-#[derive(Clone, Copy)]
+// Its links lie in the value itself, so that a table needs no heap.
+#[derive(Drop)]
 pub struct Links {
-    links: [u32; 4096],
-    count: u32,
-    ghost few: { count ≤ 4096 },
+    links: ArrayVec<u32, 4096>,
+    ghost few: { array_vec_len links ≤ 4096 },
 }
 
 impl Links {
+    ghost use Rattle.links.specs.Held.{links_of};
+
     // A table with no link.
     pub fn new() -> Links
-        ensures { take result.count result.links ≡ [] }
+        ensures { links_of result ≡ [] }
     {
         Links {
-            links: [FREE_SECTOR; 4096],
-            count: 0,
+            links: ArrayVec::new(),
         }
     }
 
     // One link more, behind the others; or false, and no change, where there are 4,096.
     pub fn push(&mut self, link: u32) -> bool
-        ensures told { result ≡ nat_lt (length (take self.old.count self.old.links)) 4096 }
-        ensures after { take self.new.count self.new.links ≡ (if result then take self.old.count self.old.links ++ link ∷ [] else take self.old.count self.old.links) }
+        ensures told { result ≡ nat_lt (length (links_of self.old)) 4096 }
+        ensures after { links_of self.new ≡ (if result then links_of self.old ++ link ∷ [] else links_of self.old) }
     {
-        if self.count >= MOST_LINKS {
-            return false;
-        }
-        self.links[self.count as usize] = link;
-        self.count += 1;
-        true
+        self.links.try_push(link).is_ok()
     }
 
     // The last link is taken off and told; nothing where there is none.
     pub fn pop(&mut self) -> Option<u32>
-        ensures told { result ≡ slice_get (take self.old.count self.old.links) (length (take self.old.count self.old.links) - 1) }
-        ensures after { take self.new.count self.new.links ≡ take (length (take self.old.count self.old.links) - 1) (take self.old.count self.old.links) }
+        ensures told { result ≡ slice_get (links_of self.old) (length (links_of self.old) - 1) }
+        ensures after { links_of self.new ≡ take (length (links_of self.old) - 1) (links_of self.old) }
     {
-        if self.count == 0 {
-            return None;
-        }
-        self.count -= 1;
-        Some(self.links[self.count as usize])
+        self.links.pop()
     }
 
     // The first `count` links stay, or all where there are fewer.
     pub fn truncate(&mut self, count: u32)
-        ensures { take self.new.count self.new.links ≡ take count (take self.old.count self.old.links) }
+        ensures { links_of self.new ≡ take count (links_of self.old) }
     {
-        if count < self.count {
-            self.count = count;
-        }
+        self.links.truncate(count as usize);
     }
 
     // The links below a bound stay, in their order.
     pub fn retain_below(&mut self, bound: u32)
-        ensures { take self.new.count self.new.links ≡ filter (λ x. ltb x bound) (take self.old.count self.old.links) }
+        ensures { links_of self.new ≡ filter (λ x. ltb x bound) (links_of self.old) }
     {
-        let mut kept = 0;
-        for place in 0..self.count {
-            let link = self.links[place as usize];
-            if link < bound {
-                self.links[kept as usize] = link;
-                kept += 1;
-            }
-        }
-        self.count = kept;
+        self.links.retain(|link| *link < bound);
+    }
+}
+
+// It asks for no memory, so it does not fail.
+impl Clone for Links {
+    ghost is_clone = { λ t u. u.links.items ≡ t.links.items };
+
+    ghost is_infallible = { λ t. Unit {0} };
+
+    fn clone(&self) -> Result<Links, AllocError> {
+        Ok(Links {
+            links: self.links.clone()?,
+        })
     }
 }
 
 impl LinkTable for Links {
-    ghost links = { λ t. take t.count t.links };
+    ghost links = { λ t. t.links.items };
 
     fn count(&self) -> u32 {
-        self.count
+        self.links.len() as u32
     }
 
     fn get(&self, place: u32) -> Option<u32> {
-        if place < self.count {
-            Some(self.links[place as usize])
-        } else {
-            None
-        }
+        self.links.get(place as usize).copied()
     }
 
     fn set(&mut self, place: u32, link: u32) -> bool {
-        if place >= self.count {
+        let Some(held) = self.links.get_mut(place as usize) else {
             return false;
-        }
-        self.links[place as usize] = link;
+        };
+        *held = link;
         true
     }
 }

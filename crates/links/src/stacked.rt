@@ -1,10 +1,10 @@
 //! A checked table that knows its FREE places, so that one is taken and given back without a search.
 
-ghost use Rattle.std.specs.Prelude.{◌≡◌, ℕ, ◌-◌, ◌≤◌, true, ◌≢◌, [], ◌∷◌, ◌++◌, length, take, is_ok, if◌then◌else◌, Some, None, Ok, Err, filter, MatchResult, nat_lt, slice_set};
+ghost use Rattle.std.specs.Prelude.{◌≡◌, ℕ, ◌-◌, ◌≤◌, true, ◌≢◌, [], ◌∷◌, ◌++◌, length, take, is_ok, filter, nat_lt, slice_set};
 ghost use Rattle.links.specs.Check.{verdict};
 ghost use Rattle.links.specs.Held.{links_of};
-ghost use Rattle.links.specs.Links.{FREE, END, at, Checked};
-ghost use Rattle.links.specs.Stack.{Stacks, single, vacant, has_room, place_after, links_taken, stack_taken, joinable, onward, trimmed, free_places};
+ghost use Rattle.links.specs.Links.{FREE, at, Checked};
+ghost use Rattle.links.specs.Stack.{Stacks, single, vacant, stack_taken, trimmed};
 ghost use Rattle.links.specs.Walk.{holds};
 
 use crate::LinkTable;
@@ -27,9 +27,11 @@ pub struct Stacked {
 }
 
 impl Stacked {
+    ghost use Rattle.links.specs.Stacked.{table_of, stack_of, Loads, place_taken, table_taken, place_joined, table_joined, stack_joined, link_cut, table_cut};
+
     // A table with no link.
     pub fn new() -> Stacked
-        ensures { (links_of result.links ≡ []) × (links_of result.stack ≡ []) }
+        ensures { (table_of result ≡ []) × (stack_of result ≡ []) }
     {
         Stacked {
             links: Links::new(),
@@ -39,7 +41,7 @@ impl Stacked {
 
     // Checks a table, and lays its FREE places on the stack, rising; or refuses it as the check does.
     pub fn load(links: Links) -> Result<Stacked, LinkFault>
-        ensures { MatchResult result (λ s. (verdict (links_of links) ≡ Ok tt) × (links_of s.links ≡ links_of links) × (links_of s.stack ≡ free_places (links_of links))) (λ f. verdict (links_of links) ≡ Err f) }
+        ensures { Loads (links_of links) result }
     {
         check(&links)?;
         let mut stack = Links::new();
@@ -54,9 +56,9 @@ impl Stacked {
     // Takes a place and links it END: the last of the stack, or where that is empty one more behind the last link.
     // Nothing, and no change, where there are 4,096 and none is FREE.
     pub fn take(&mut self) -> Option<u32>
-        ensures told { result ≡ (if has_room (links_of self.old.links) (links_of self.old.stack) then Some (place_after (links_of self.old.links) (links_of self.old.stack)) else None) }
-        ensures table { links_of self.new.links ≡ (if has_room (links_of self.old.links) (links_of self.old.stack) then links_taken (links_of self.old.links) (links_of self.old.stack) else links_of self.old.links) }
-        ensures places { links_of self.new.stack ≡ stack_taken (links_of self.old.stack) }
+        ensures told { result ≡ place_taken self.old }
+        ensures table { table_of self.new ≡ table_taken self.old }
+        ensures places { stack_of self.new ≡ stack_taken (stack_of self.old) }
     {
         match self.stack.pop() {
             Some(place) => {
@@ -65,11 +67,7 @@ impl Stacked {
             }
             None => {
                 let place = self.links.count();
-                if self.links.push(END_OF_CHAIN) {
-                    Some(place)
-                } else {
-                    None
-                }
+                self.links.push(END_OF_CHAIN).then_some(place)
             }
         }
     }
@@ -77,9 +75,9 @@ impl Stacked {
     // Takes a place as above, and has the link at `last`, which must be END, point to it. Nothing, and no change, where
     // it is not END or no place is left.
     pub fn append(&mut self, last: u32) -> Option<u32>
-        ensures told { result ≡ (if joinable (links_of self.old.links) (links_of self.old.stack) last then Some (place_after (links_of self.old.links) (links_of self.old.stack)) else None) }
-        ensures table { links_of self.new.links ≡ (if joinable (links_of self.old.links) (links_of self.old.stack) last then slice_set (links_taken (links_of self.old.links) (links_of self.old.stack)) last (place_after (links_of self.old.links) (links_of self.old.stack)) else links_of self.old.links) }
-        ensures places { links_of self.new.stack ≡ (if joinable (links_of self.old.links) (links_of self.old.stack) last then stack_taken (links_of self.old.stack) else links_of self.old.stack) }
+        ensures told { result ≡ place_joined self.old last }
+        ensures table { table_of self.new ≡ table_joined self.old last }
+        ensures places { stack_of self.new ≡ stack_joined self.old last }
     {
         if link_or_free(&self.links, last) != END_OF_CHAIN {
             return None;
@@ -92,9 +90,9 @@ impl Stacked {
     // Cuts a chain off behind a place, and tells where what followed begins: the link that was there, a pointer or END,
     // becomes END. Nothing, and no change, where there is no such link.
     pub fn cut_off(&mut self, place: u32) -> Option<u32>
-        ensures told { result ≡ (if onward (at (links_of self.old.links) place) then Some (at (links_of self.old.links) place) else None) }
-        ensures table { links_of self.new.links ≡ (if onward (at (links_of self.old.links) place) then slice_set (links_of self.old.links) place END else links_of self.old.links) }
-        ensures places { links_of self.new.stack ≡ links_of self.old.stack }
+        ensures told { result ≡ link_cut (table_of self.old) place }
+        ensures table { table_of self.new ≡ table_cut (table_of self.old) place }
+        ensures places { stack_of self.new ≡ stack_of self.old }
     {
         let link = link_or_free(&self.links, place);
         if link > MAX_REGULAR_SECTOR && link != END_OF_CHAIN {
@@ -107,11 +105,11 @@ impl Stacked {
     // Makes a place FREE that no link points to, lays it on the stack, and tells the link that was there. Called by a mini
     // store alone, when the shared text of chains has it give back the first unit of a chain.
     pub fn give_back(&mut self, place: u32) -> u32
-        requires used { at (links_of self.old.links) place ≢ FREE }
-        requires first { (q : ℕ) → at (links_of self.old.links) q ≢ place }
-        ensures told { result ≡ at (links_of self.old.links) place }
-        ensures table { links_of self.new.links ≡ slice_set (links_of self.old.links) place FREE }
-        ensures places { links_of self.new.stack ≡ links_of self.old.stack ++ place ∷ [] }
+        requires used { at (table_of self.old) place ≢ FREE }
+        requires first { (q : ℕ) → at (table_of self.old) q ≢ place }
+        ensures told { result ≡ at (table_of self.old) place }
+        ensures table { table_of self.new ≡ slice_set (table_of self.old) place FREE }
+        ensures places { stack_of self.new ≡ stack_of self.old ++ place ∷ [] }
     {
         let link = link_or_free(&self.links, place);
         self.links.set(place, FREE_SECTOR);
@@ -121,23 +119,24 @@ impl Stacked {
 
     // How many links stay where the trailing FREE ones go.
     fn trimmed_count(&self) -> u32
-        ensures told { result ≡ trimmed (links_of self.now.links) }
-        ensures past { (k : ℕ) → result ≤ k → at (links_of self.now.links) k ≡ FREE }
+        ensures told { result ≡ trimmed (table_of self.now) }
+        ensures past { (k : ℕ) → result ≤ k → at (table_of self.now) k ≡ FREE }
     {
-        let mut kept = self.links.count();
-        while kept > 0 && link_or_free(&self.links, kept - 1) == FREE_SECTOR {
-            kept -= 1;
+        for place in (0..self.links.count()).rev() {
+            if link_or_free(&self.links, place) != FREE_SECTOR {
+                return place + 1;
+            }
         }
-        kept
+        0
     }
 
     // The trailing FREE links go from the table, and their places from the stack; the others keep their order there.
     // Tells how many went.
     pub fn trim(&mut self) -> u32
-        ensures told { result ≡ length (links_of self.old.links) - trimmed (links_of self.old.links) }
-        ensures table { links_of self.new.links ≡ take (trimmed (links_of self.old.links)) (links_of self.old.links) }
-        ensures places { links_of self.new.stack ≡ filter (λ p. nat_lt p (trimmed (links_of self.old.links))) (links_of self.old.stack) }
-        ensures same { at (links_of self.new.links) ≡ at (links_of self.old.links) }
+        ensures told { result ≡ length (table_of self.old) - trimmed (table_of self.old) }
+        ensures table { table_of self.new ≡ take (trimmed (table_of self.old)) (table_of self.old) }
+        ensures places { stack_of self.new ≡ filter (λ p. nat_lt p (trimmed (table_of self.old))) (stack_of self.old) }
+        ensures same { at (table_of self.new) ≡ at (table_of self.old) }
     {
         let count = self.links.count();
         let kept = self.trimmed_count();
@@ -149,15 +148,15 @@ impl Stacked {
     // The table, to be asked; it is checked.
     pub fn links(&self) -> &Links
         ensures told { result.now ≡ self.now.links }
-        ensures checked { Checked (at (links_of self.now.links)) }
+        ensures checked { Checked (at (table_of self.now)) }
     {
         &self.links
     }
 
     // How many places are FREE: the stack has each of them once.
     pub fn free(&self) -> u32
-        ensures told { result ≡ length (links_of self.now.stack) }
-        ensures stacks { Stacks (links_of self.now.links) (links_of self.now.stack) }
+        ensures told { result ≡ length (stack_of self.now) }
+        ensures stacks { Stacks (table_of self.now) (stack_of self.now) }
     {
         self.stack.count()
     }

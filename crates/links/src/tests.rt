@@ -47,7 +47,14 @@ fn pointer_to_itself(rt: HostRuntime) {
         "a ring breaks no rule of the check"
     );
     assert!(rt; !is_head(&t, 0));
-    assert_eq!(rt; walk(&t, 0, 7), Walked { places: 7, stop: 0 });
+    assert_eq!(rt;
+        walk(&t, 0, 7),
+        Walked {
+            places: 7,
+            stop: 0,
+            last: 0,
+        }
+    );
 }
 
 #[test]
@@ -124,6 +131,16 @@ fn full_table_in_one_chain(rt: HostRuntime) {
 }
 
 #[test]
+fn cloned(rt: HostRuntime) -> Result<(), Fail> {
+    let t = table(&[2, END_OF_CHAIN]);
+    let copy = t.clone()?;
+    assert_eq!(rt; copy.count(), 2);
+    assert_eq!(rt; copy.get(0), Some(2));
+    assert_eq!(rt; copy.get(1), Some(END_OF_CHAIN));
+    Ok(())
+}
+
+#[test]
 fn shorter(rt: HostRuntime) {
     let mut t = table(&[5, 1, 7, 3]);
     assert_eq!(rt; t.pop(), Some(3));
@@ -138,12 +155,9 @@ fn shorter(rt: HostRuntime) {
 
 #[test]
 fn taken_from_the_stack(rt: HostRuntime) -> Result<(), Fail> {
-    let mut s = match Stacked::load(table(&[FREE_SECTOR, END_OF_CHAIN, FREE_SECTOR])) {
-        Ok(s) => s,
-        Err(_) => {
-            assert!(rt; false, "refused");
-            return Ok(())
-        },
+    let Ok(mut s) = Stacked::load(table(&[FREE_SECTOR, END_OF_CHAIN, FREE_SECTOR])) else {
+        assert!(rt; false, "refused");
+        return Ok(());
     };
     assert_eq!(rt; s.free(), 2);
     assert_eq!(rt; s.append(1), Some(2));
@@ -159,12 +173,10 @@ fn taken_from_the_stack(rt: HostRuntime) -> Result<(), Fail> {
 
 #[test]
 fn trimmed(rt: HostRuntime) -> Result<(), Fail> {
-    let mut s = match Stacked::load(table(&[FREE_SECTOR, END_OF_CHAIN, FREE_SECTOR, FREE_SECTOR])) {
-        Ok(s) => s,
-        Err(_) => {
-            assert!(rt; false, "refused");
-            return Ok(())
-        },
+    let Ok(mut s) = Stacked::load(table(&[FREE_SECTOR, END_OF_CHAIN, FREE_SECTOR, FREE_SECTOR]))
+    else {
+        assert!(rt; false, "refused");
+        return Ok(());
     };
     assert_eq!(rt; s.trim(), 2);
     assert_eq!(rt; s.trim(), 0);

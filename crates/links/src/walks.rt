@@ -9,16 +9,10 @@ ghost use Rattle.std.specs.Option.{option_map};
 use crate::LinkTable;
 use crate::consts::{END_OF_CHAIN, FREE_SECTOR};
 
-// How a walk went: how many places it met, and the link at which it stopped.
+// How a walk went: how many places it met, the link at which it stopped, and the last place that it met, or where it
+// began if it met none.
 #[derive(Clone, Copy, PartialEq, Eq, Debug)]
 pub struct Walked {
-    pub places: u32,
-    pub stop: u32,
-}
-
-// The same, and the last place that it met, or where it began if it met none.
-#[derive(Clone, Copy, PartialEq, Eq, Debug)]
-pub struct Followed {
     pub places: u32,
     pub stop: u32,
     pub last: u32,
@@ -33,40 +27,28 @@ pub struct Surveyed {
 
 // Follows the links from the link `from` on, at most `most` of them, and while there is a link. So it ends on a table
 // with a ring too.
-pub fn follow<T: LinkTable>(table: &T, from: u32, most: u32) -> Followed
+pub fn walk<T: LinkTable>(table: &T, from: u32, most: u32) -> Walked
     ensures places { result.places ≡ length (trace most (T.links table.now) from) }
     ensures stop { result.stop ≡ stop most (T.links table.now) from }
     ensures last { result.last ≡ last_or from (trace most (T.links table.now) from) }
 {
     let mut link = from;
     let mut last = from;
-    let mut places = 0;
-    while places < most {
-        match table.get(link) {
-            Some(next) => {
-                last = link;
-                link = next;
-                places += 1;
-            }
-            None => break,
-        }
+    for places in 0..most {
+        let Some(next) = table.get(link) else {
+            return Walked {
+                places,
+                stop: link,
+                last,
+            };
+        };
+        last = link;
+        link = next;
     }
-    Followed {
-        places,
+    Walked {
+        places: most,
         stop: link,
         last,
-    }
-}
-
-// The walk, without the last place that it met.
-pub fn walk<T: LinkTable>(table: &T, from: u32, most: u32) -> Walked
-    ensures places { result.places ≡ length (trace most (T.links table.now) from) }
-    ensures stop { result.stop ≡ stop most (T.links table.now) from }
-{
-    let whole = follow(table, from, most);
-    Walked {
-        places: whole.places,
-        stop: whole.stop,
     }
 }
 
@@ -74,22 +56,14 @@ pub fn walk<T: LinkTable>(table: &T, from: u32, most: u32) -> Walked
 pub(crate) fn link_or_free<T: LinkTable>(table: &T, place: u32) -> u32
     ensures { result ≡ at (T.links table.now) place }
 {
-    match table.get(place) {
-        Some(link) => link,
-        None => FREE_SECTOR,
-    }
+    table.get(place).unwrap_or(FREE_SECTOR)
 }
 
 // Whether a place of the table has this link.
 fn has_link<T: LinkTable>(table: &T, link: u32) -> bool
     ensures { result ≡ holds link (T.links table.now) }
 {
-    for place in 0..table.count() {
-        if link_or_free(table, place) == link {
-            return true;
-        }
-    }
-    false
+    (0..table.count()).any(|place| link_or_free(table, place) == link)
 }
 
 // Goes along the chain of a head once: tells its units, and the place at a rank, or its last place where it is shorter.
@@ -99,8 +73,8 @@ pub fn survey<T: LinkTable>(table: &T, head: u32, rank: u32) -> Option<Surveyed>
     ensures few { length (T.links table.now) ≤ 4096 }
 {
     let count = table.count();
-    let front = follow(table, head, rank.min(count));
-    let rest = follow(table, front.stop, count - front.places);
+    let front = walk(table, head, rank.min(count));
+    let rest = walk(table, front.stop, count - front.places);
     let units = front.places + rest.places;
     if units == 0 || rest.stop != END_OF_CHAIN || has_link(table, head) {
         return None;
@@ -118,11 +92,7 @@ pub fn units<T: LinkTable>(table: &T, place: u32) -> Option<u32>
     ensures told { result ≡ option_map length (chain_of (T.links table.now) place) }
     ensures means { Units (at (T.links table.now)) place result }
 {
-    let whole = walk(table, place, table.count());
-    if whole.places == 0 || whole.stop != END_OF_CHAIN || has_link(table, place) {
-        return None;
-    }
-    Some(whole.places)
+    survey(table, place, 0).map(|whole| whole.units)
 }
 
 // Whether a place is a head: no pointer points to it, and the pointers lead from it to END.
@@ -151,8 +121,5 @@ pub fn place_at<T: LinkTable>(table: &T, from: u32, rank: u32) -> Option<u32>
         return None;
     }
     let front = walk(table, from, rank);
-    if front.places < rank || front.stop >= count {
-        return None;
-    }
-    Some(front.stop)
+    (front.places == rank && front.stop < count).then_some(front.stop)
 }

@@ -4,7 +4,7 @@ use Rattle.links.specs.declared.checks.LinkFault.{LinkFault}
 use Rattle.links.specs.declared.checks.LinkFault.TheVariants.{Dangling, Shared}
 use Rattle.links.specs.Check.{verdict, Lowest}
 use Rattle.links.specs.Links.{at, Checked}
-use Rattle.links.proofs.Verdicts.{looked_none, looked_skip, marked, fault_dangling, fault_shared, looked_mark, refused, lowest_verdict, decides}
+use Rattle.links.proofs.Verdicts.{looked_none, looked_skip, fault_dangling, fault_shared, looked_mark, refused, lowest_verdict, decides}
 use Rattle.links.proofs.checks.check.Goals as goal
 
 -- all three clauses from the second
@@ -26,10 +26,6 @@ returns-then-link_or_free g c =
     let r = all L (Err (Dangling p)) (refused L p _ (Dangling p) c.loop-place.invariant (omega arith) refl e) in
     record { told = r.0; lowest = r.1; decides = r.2 }
 
-pub bounds-met-link : goal.bounds-met-link
-bounds-met-link g c =
-    marked (g.T.LinkTable.links c.args.table.now) c.loop-place.place c.link_or_free-link.result c.link_or_free.result c.loop-place.met (search rules)
-
 pub returns-then-met-link : goal.returns-then-met-link
 returns-then-met-link g c =
     let L = g.T.LinkTable.links c.args.table.now in
@@ -37,10 +33,6 @@ returns-then-met-link g c =
     let e = fault_shared L p c.link_or_free-link.result c.link_or_free.result c.loop-place.met (search rules) c.if-met-link.true in
     let r = all L (Err (Shared p)) (refused L p _ (Shared p) c.loop-place.invariant (omega arith) refl e) in
     record { told = r.0; lowest = r.1; decides = r.2 }
-
-pub bounds-met-link-in-loop-place : goal.bounds-met-link-in-loop-place
-bounds-met-link-in-loop-place g c =
-    marked (g.T.LinkTable.links c.args.table.now) c.loop-place.place c.link_or_free-link.result c.link_or_free.result c.loop-place.met (search rules)
 
 pub loop-place-preserved : goal.loop-place-preserved
 loop-place-preserved g c =

@@ -1,15 +1,14 @@
 -- Assumes nothing.
-use Rattle.std.proofs.Common.{arith}
-use Rattle.links.proofs.Traces.{holds_here, holds_more, holds_all}
+use Rattle.std.proofs.Common.{eqb, length, refl, ◌∙◌, rules, tests, arith}
+use Rattle.std.proofs.lemmas.Iterator.{YieldsList-from_range}
+use Rattle.std.proofs.lemmas.Iterator.Search.{any_from_yields_List}
+use Rattle.links.specs.Links.{at}
+use Rattle.links.proofs.Traces.{any_at}
 use Rattle.links.proofs.walks.has_link.Goals as goal
 
-pub returns-then-link_or_free-link : goal.returns-then-link_or_free-link
-returns-then-link_or_free-link g c =
-    holds_here _ c.args.link c.loop-place.place c.loop-place.invariant _ (omega arith) c.link_or_free.ensures c.if-link_or_free-link.true
-
-pub loop-place-preserved : goal.loop-place-preserved
-loop-place-preserved g c =
-    holds_more _ c.args.link c.loop-place.place c.loop-place.invariant _ (omega arith) c.link_or_free.ensures c.if-link_or_free-link.false
-
 pub returns : goal.returns
-returns g c = holds_all _ c.args.link c.loop-place.place c.loop-place.invariant (omega arith)
+returns g c =
+    let L = g.T.LinkTable.links c.args.table.now in
+    let p = c.args.link in
+    any_from_yields_List (λ k. eqb (at L k) p) _ _ _ c.any.ensures.ran (YieldsList-from_range 0 _ (length L) refl (omega arith)) (λ x b q k. (search (rules, tests), search (rules, tests)))
+    ∙ any_at L p

@@ -1,10 +1,9 @@
 -- Assumes nothing.
-use Rattle.links.proofs.Lookups.{some_link, no_link, free_past}
+use Rattle.std.proofs.Common.{ap, ◌∙◌}
+use Rattle.std.specs.Option.{unwrap_or}
+use Rattle.std.proofs.lemmas.Option.{unwrap_or-slice_get}
+use Rattle.links.specs.Links.{FREE}
 use Rattle.links.proofs.walks.link_or_free.Goals as goal
 
-pub returns-in-Some : goal.returns-in-Some
-returns-in-Some g c = (some_link (g.T.LinkTable.links c.args.table.now) c.args.place _ c.in-Some.ensures).1
-
-pub returns-in-None : goal.returns-in-None
-returns-in-None g c =
-    let L = g.T.LinkTable.links c.args.table.now in free_past L c.args.place (no_link L c.args.place c.in-None.ensures)
+pub returns : goal.returns
+returns g c = c.unwrap_or.ensures ∙ ap (λ o. unwrap_or o FREE) c.get.ensures ∙ unwrap_or-slice_get (g.T.LinkTable.links c.args.table.now) c.args.place FREE

@@ -5,4 +5,4 @@ use Rattle.links.proofs.stacked.Stacked.cut_off.Goals as goal
 
 pub invariant_of-self : goal.invariant_of-self
 invariant_of-self c =
-    let k = told_kept _ _ (kept_cut _ _ _ c.args.place _ (kept_of c.args.self.now) c.link_or_free-link.ensures (omega arith) c.set.ensures.after) in record { checked = k.0; once = k.1.0; stacked = k.1.1.0 }
+    told_kept _ _ (kept_cut _ _ _ c.args.place _ (kept_of c.args.self.now) c.link_or_free-link.ensures (omega arith) c.set.ensures.after)

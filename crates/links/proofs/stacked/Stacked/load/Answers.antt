@@ -18,7 +18,7 @@ loop-place-preserved c =
 pub invariant_of-result : goal.invariant_of-result
 invariant_of-result c =
     let L = links_of c.args.links in
-    let k = told_kept _ _ (laid_kept L _ c.in_ok-check.ensures.told (laying_all L _ _ c.loop-place.invariant (omega arith))) in record { checked = k.0; once = k.1.0; stacked = k.1.1.0 }
+    told_kept _ _ (laid_kept L _ c.in_ok-check.ensures.told (laying_all L _ _ c.loop-place.invariant (omega arith)))
 
 pub returns : goal.returns
 returns c =
