@@ -1,6 +1,7 @@
 -- The lines of a text, the words of a line, and the bytes that a word writes.
 -- Assumes nothing.
-use Rattle.std.specs.Prelude.{ℕ, Bool, false, cond, ◌&&◌, ◌||◌, List, [], ◌∷◌, ◌++◌, Some, None, codes, Option, ◌==◌, nat_le}
+use Rattle.std.specs.Prelude.{ℕ, Bool, cond, ◌&&◌, ◌||◌, List, [], ◌∷◌, ◌++◌, length, Some, None, codes, Option, ◌==◌, nat_le}
+use Rattle.std.specs.List.{slice_split}
 use Rattle.std.specs.Str.{bytes_eq}
 use Rattle.script.specs.Words.{byte_of}
 
@@ -10,13 +11,11 @@ blank c = c == 32 || (nat_le 9 c && nat_le c 13)
 
 -- a word that has come to its end; no bytes are no word
 abbrev pub closed : List ℕ → List (List ℕ)
-closed [] = []
-closed (c ∷ cs) = (c ∷ cs) ∷ []
+closed w = cond (length w == 0) [] (w ∷ [])
 
 -- a comment begins at c, after the bytes w of a word: it is a # where a word would begin
 abbrev pub comments : List ℕ → ℕ → Bool
-comments [] c = c == 35
-comments (a ∷ w) c = false
+comments w c = length w == 0 && c == 35
 
 -- the words of a line, after the bytes w of the first
 abbrev pub words_after : List ℕ → List ℕ → List (List ℕ)
@@ -27,14 +26,9 @@ words_after w (c ∷ cs) = cond (blank c) (closed w ++ words_after [] cs) (cond 
 abbrev pub words_of : List ℕ → List (List ℕ)
 words_of line = words_after [] line
 
--- the lines of a text, after the bytes w of the first: a line feed ends one, and is no part of it
-abbrev pub lines_after : List ℕ → List ℕ → List (List ℕ)
-lines_after w [] = w ∷ []
-lines_after w (c ∷ cs) = cond (c == 10) (w ∷ lines_after [] cs) (lines_after (w ++ c ∷ []) cs)
-
--- the lines of a text
+-- the lines of a text: a line feed ends one, and is no part of it
 abbrev pub lines_of : List ℕ → List (List ℕ)
-lines_of text = lines_after [] text
+lines_of text = slice_split (λ c. c == 10) text
 
 -- a byte before bytes, where both are there
 abbrev pub joined : Option ℕ → Option (List ℕ) → Option (List ℕ)

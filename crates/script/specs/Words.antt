@@ -1,34 +1,35 @@
 -- What a word of a script says.
 -- Assumes nothing.
-use Rattle.std.specs.Prelude.{ℕ, ◌+◌, ◌-◌, ◌*◌, ◌%◌, ◌^◌, Bool, cond, ◌&&◌, List, [], ◌∷◌, length, drop, Some, None, codes, Option, ◌==◌, bit_xor, nat_le, nat_lt, slice_index}
+use Rattle.std.specs.Prelude.{ℕ, ◌+◌, ◌*◌, ◌%◌, ◌^◌, ◌==◌, Bool, cond, List, length, drop, Some, None, codes, Option, bit_xor, fold, nat_le, nat_lt}
+use Rattle.std.specs.Char.{digit_value}
+use Rattle.std.specs.List.{starts_with}
 use Rattle.std.specs.Str.{bytes_eq}
 
--- what a byte is worth as a digit: 0 to 9, and a to f or A to F for 10 to 15; any other byte 16
-abbrev pub worth : ℕ → ℕ
-worth c = cond (nat_le 48 c && nat_le c 57) (c - 48) (cond (nat_le 97 c && nat_le c 102) (c - 87) (cond (nat_le 65 c && nat_le c 70) (c - 55) 16))
+-- what a byte is worth as a digit: 0 to 9, and a to f or A to F for 10 to 15; any other byte is no digit
+abbrev pub worth : ℕ → Option ℕ
+worth c = cond (nat_lt (digit_value c) 16) (Some (digit_value c)) None
 
 -- a number of 64 bits, and nothing where it is larger
 abbrev pub fit : ℕ → Option ℕ
 fit n = cond (nat_lt n (2 ^ 64)) (Some n) None
 
+-- a number with one digit more, where it is a digit of the base
+abbrev pub longer : ℕ → ℕ → Option ℕ → Option ℕ
+longer base n None = None
+longer base n (Some d) = cond (nat_lt d base) (fit (n * base + d)) None
+
 -- one digit more
 abbrev pub more : ℕ → Option ℕ → ℕ → Option ℕ
 more base None c = None
-more base (Some n) c = cond (nat_lt (worth c) base) (fit (n * base + worth c)) None
+more base (Some n) c = longer base n (worth c)
 
--- all of the digits, after those that wrote o
-abbrev pub along : ℕ → Option ℕ → List ℕ → Option ℕ
-along base o [] = o
-along base o (c ∷ cs) = along base (more base o c) cs
-
--- the number that digits write
+-- the number that digits write; no digits write none
 abbrev pub numeral : ℕ → List ℕ → Option ℕ
-numeral base [] = None
-numeral base (c ∷ cs) = along base (Some 0) (c ∷ cs)
+numeral base text = cond (length text == 0) None (fold (more base) (Some 0) text)
 
 -- the word begins with 0x
 abbrev pub hexed : List ℕ → Bool
-hexed w = nat_le 2 (length w) && (slice_index w 0 == 48 && slice_index w 1 == 120)
+hexed w = starts_with (λ a b. a == b) w (codes "0x")
 
 -- the number that a word writes: END and FREE are names of two links
 abbrev pub number_of : List ℕ → Option ℕ
@@ -44,8 +45,13 @@ abbrev pub short_of : List ℕ → Option ℕ
 short_of w = within32 (number_of w)
 
 -- the byte that two hexadecimal digits write
+abbrev pub byte_written : Option ℕ → Option ℕ → Option ℕ
+byte_written None o = None
+byte_written (Some a) None = None
+byte_written (Some a) (Some b) = Some (a * 16 + b)
+
 abbrev pub byte_of : ℕ → ℕ → Option ℕ
-byte_of high low = cond (nat_lt (worth high) 16 && nat_lt (worth low) 16) (Some (worth high * 16 + worth low)) None
+byte_of high low = byte_written (worth high) (worth low)
 
 -- one step of FNV-1a
 abbrev pub hashed : ℕ → ℕ → ℕ

@@ -10,30 +10,18 @@ use std::alloc::{AllocError, Global};
 // A word that begins with this is a comment, with all that follows it on its line.
 const COMMENT: u8 = b'#';
 
-// Ends a line, and is no part of it.
-const FEED: u8 = b'\n';
-
-// The lines of a text; the last has no end.
+// The lines of a text: a line feed ends one, and is no part of it. The last has no end.
 pub fn lines_of(heap: Global, text: &str) -> Result<Vec<&str>, AllocError>
     ensures { IfOk result (λ v. map (λ x. x.now) v.items ≡ lines_of text.now) }
 {
-    let mut all = Vec::new(heap);
-    let mut start = 0;
-    for (i, byte) in text.as_bytes().iter().enumerate() {
-        if *byte == FEED {
-            all.push(&text[start..i])?;
-            start = i + 1;
-        }
-    }
-    all.push(&text[start..])?;
-    Ok(all)
+    text.split('\n').collect(heap)
 }
 
 // Whether a byte parts words.
 fn is_blank(byte: u8) -> bool
     ensures { result ≡ blank byte }
 {
-    byte == b' ' || (byte >= 9 && byte <= 13)
+    matches!(byte, b' ' | b'\t'..=b'\r')
 }
 
 // A word that has come to its end goes behind the others; no bytes are no word.
@@ -47,6 +35,7 @@ fn close<'a>(all: &mut Vec<&'a str>, word: &'a str) -> Result<(), AllocError>
 }
 
 // The words of a line up to a comment.
+// Kept: `split_ascii_whitespace` leaves out the byte 11, and a `split` at these six tells of a piece no more than its length.
 pub fn words_of(heap: Global, line: &str) -> Result<Vec<&str>, AllocError>
     ensures { IfOk result (λ v. map (λ x. x.now) v.items ≡ words_of line.now) }
 {
@@ -80,9 +69,5 @@ pub fn bytes_of(heap: Global, word: &str) -> Result<Option<Vec<u8>>, AllocError>
         }
         rest = tail;
     }
-    if rest.is_empty() {
-        Ok(Some(all))
-    } else {
-        Ok(None)
-    }
+    Ok(rest.is_empty().then_some(all))
 }

@@ -3,7 +3,6 @@ use Rattle.std.proofs.Common.{◌≡◌, ℕ, ◌-◌, ◌≤◌, Bool, false, L
 use Rattle.std.specs.Option.{option_map}
 use Rattle.std.specs.Str.{bytes_eq}
 use Rattle.std.proofs.lemmas.List.{append_assoc, take_rest}
-use Rattle.script.proofs.Names.{not_same}
 use Rattle.script.specs.Lines.{joined, pairs, bytes_of}
 use Rattle.script.specs.Words.{byte_of}
 use Rattle.script.proofs.lines.bytes_of.Goals as goal
@@ -35,7 +34,7 @@ stop rest xs t l e inv = ap (λ o. behind xs (joined o (pairs (drop 2 rest)))) e
 
 -- a word that is no - is pairs; t is the word as bytes
 of_pairs : (w t : List ℕ) (r : Bool) → t ≡ w → r ≡ bytes_eq w (codes "-") → r ≡ false → pairs t ≡ bytes_of w
-of_pairs w t r same d n = ap pairs same ∙ rw (not_same w (codes "-") r d n)
+of_pairs w t r same d n = ap pairs same ∙ rw (sym d ∙ n)
 
 pub returns-in-None : goal.returns-in-None
 returns-in-None c =

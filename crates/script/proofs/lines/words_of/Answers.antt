@@ -1,5 +1,6 @@
 -- Assumes nothing.
-use Rattle.std.proofs.Common.{◌≡◌, ℕ, ◌+◌, ◌-◌, ◌<◌, true, false, eqb, List, [], ◌∷◌, ◌++◌, map, length, get_or, take, drop, vec_items, IsUtf8, sym, refl, ap, ◌∙◌, subst, arith}
+use Rattle.std.proofs.Common.{◌≡◌, ℕ, ◌+◌, ◌-◌, ◌<◌, true, ◌&&◌, ◌==◌, false, List, ◌++◌, map, length, get_or, take, drop, vec_items, IsUtf8, sym, refl, ap, ◌∙◌, arith}
+use Rattle.std.proofs.Math.Bool.{and-false}
 use Rattle.std.proofs.lemmas.List.{length-drop, length-take}
 use Rattle.std.proofs.lemmas.Str.{IsCharBoundary-start}
 use Rattle.std.proofs.lemmas.Bool.{cond-true, cond-false, ne_eqb, eq-eqb}
@@ -11,27 +12,20 @@ use Rattle.script.proofs.lines.words_of.Goals as goal
 blank_ascii : (c : ℕ) → blank c ≡ true → c < 128
 blank_ascii c e = grind (arith, nat_tests)
 
--- no comment where the byte is no #, nor inside a word
-no_comment : (w : List ℕ) (c : ℕ) → eqb c 35 ≡ false → comments w c ≡ false
-no_comment [] c e = e
-no_comment (a ∷ w) c e = refl
-
-inside : (w : List ℕ) (c : ℕ) → 0 < length w → comments w c ≡ false
-inside [] c l = absurd (omega arith)
-inside (a ∷ w) c l = refl
-
 -- t is the line as bytes
 module _ (line t : List ℕ) (same : t ≡ line) (i start : ℕ) (l : i < length line) (ws : List (List ℕ)) (st : State words_after line i start ws) where
-  past : true ≡ blank (get_or t i 0) → IsUtf8 t → (vs : List (List ℕ)) → vs ≡ ws ++ closed (held line start i) → State words_after line (i + 1) (i + 1) vs
+  past : true ≡ blank (get_or t i 0) → IsUtf8 line → (vs : List (List ℕ)) → vs ≡ ws ++ closed (held line start i) → State words_after line (i + 1) (i + 1) vs
   past b u vs e =
       let at : blank (get_or line i 0) ≡ true = sym (rw same at b) in
-      ended words_after line i start ws st l (blank_ascii (get_or line i 0) at) (rw same at u) _ vs (cond-true _ _ _ at) e
+      ended words_after line i start ws st l (blank_ascii (get_or line i 0) at) u _ vs (cond-true _ _ _ at) e
 
   along : false ≡ blank (get_or t i 0) → comments (held line start i) (get_or line i 0) ≡ false → State words_after line (i + 1) start ws
   along b h = grown words_after line i start ws st l (cond-false _ _ _ (sym (rw same at b)) ∙ cond-false _ _ _ h)
 
   apart : (start ≡ i → ⊥) → comments (held line start i) (get_or line i 0) ≡ false
-  apart n = inside (held line start i) _ (rw (length-take, length-drop) (omega arith))
+  apart n =
+      let some : 0 < length (held line start i) = rw (length-take, length-drop) (omega arith) in
+      ap (λ b. b && get_or line i 0 == 35) (ne_eqb (length (held line start i)) 0 (λ e. omega (arith, some)))
 
   hash : false ≡ blank (get_or t i 0) → start ≡ i → get_or t i 0 ≡ 35 → ws ≡ words_of line
   hash b e h =
@@ -41,11 +35,7 @@ module _ (line t : List ℕ) (same : t ≡ line) (i start : ℕ) (l : i < length
 
 pub loop-i-init : goal.loop-i-init
 loop-i-init c =
-    let line = c.args.line.now in (
-      ap (λ vs. map (λ x. x.now) vs ++ words_of line) c.new-all.ensures.items,
-      omega arith,
-      IsCharBoundary-start line (subst IsUtf8 c.as_bytes-byte-items.ensures.value c.as_bytes-byte-items.ensures.utf8),
-    )
+    (ap (λ vs. map (λ x. x.now) vs ++ words_of c.args.line.now) c.new-all.ensures.items, omega arith, IsCharBoundary-start c.args.line.now c.utf8.line)
 
 pub loop-i-preserved : goal.loop-i-preserved
 loop-i-preserved c =
@@ -59,14 +49,15 @@ loop-i-preserved c =
     elim c.if-is_blank.branch [
       | goal.then-is_blank+in_ok-close w ↦
           rw (w.start-is, w.all-is)
-          (past line _ same i start l ws st w.if-is_blank.ensures c.as_bytes-byte-items.ensures.utf8 _
+          (past line _ same i start l ws st w.if-is_blank.ensures c.utf8.line _
           (w.in_ok-close.ensures ∙ ap (λ v. ws ++ closed v) w.range.ensures.value))
       | goal.else-is_blank+else-start-i w ↦
           rw (w.start-is, w.all-is)
           (along line _ same i start l ws st w.if-is_blank.ensures
           (elim w.else-start-i.branch [
             | goal.else-start-i-via-then-start-i+else-byte-eq-COMMENT v ↦
-                no_comment _ _ (ne_eqb (get_or line i 0) 35 (λ e. v.if-byte-eq-COMMENT.false (ap (λ t. get_or t i 0) same ∙ e)))
+                ap (λ b. length (held line start i) == 0 && b)
+                (ne_eqb (get_or line i 0) 35 (λ e. v.if-byte-eq-COMMENT.false (ap (λ t. get_or t i 0) same ∙ e))) ∙ and-false _
             | goal.else-start-i-via-else-start-i v ↦ apart line _ same i start l ws st v.if-start-i.false
           ]))
     ]
