@@ -1,3 +1,4 @@
 pub mod Extents
+pub mod Kinds
 pub mod Meaning
 pub mod Refusals

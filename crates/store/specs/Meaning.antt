@@ -6,6 +6,7 @@ use Rattle.std.specs.Option.{unwrap_or}
 use Rattle.std.specs.Map.{update}
 use Rattle.links.specs.Links.{Apart}
 use Rattle.store.specs.declared.entries.Entry.{Entry}
+use Rattle.store.specs.declared.entries.ObjType.TheVariants.{Unallocated}
 use Rattle.store.specs.declared.entries.Words.{Words}
 use Rattle.store.specs.Refusals.{Refused, unless}
 
@@ -133,11 +134,11 @@ with_notes m es w = record { unit = m.unit; chain = m.chain; room = m.room; note
 
 -- the entry at id has another start and length, and the kind that it had
 abbrev pub moved : List Entry → ℕ → ℕ → ℕ → List Entry
-moved es id start long = slice_set es id (record { kind = (slice_index_or es id (record { kind = 0; start = 0; length = 0 })).kind; start = start; length = long })
+moved es id start long = slice_set es id (record { kind = (slice_index_or es id (record { kind = Unallocated; start = 0; length = 0 })).kind; start = start; length = long })
 
 -- what setting an entry leaves, and what setting the words
 abbrev pub entered : Store → ℕ → ℕ → ℕ → ℕ → Store
 entered m layer id start long = unless (due_entry m layer id) m (with_notes m (moved m.notes.entries id start long) m.notes.words)
 
-abbrev pub worded : Store → ℕ → ℕ → Store
-worded m start count = with_notes m m.notes.entries (record { start = start; count = count })
+abbrev pub worded : Store → Words → Store
+worded m w = with_notes m m.notes.entries w

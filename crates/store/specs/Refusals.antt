@@ -1,6 +1,7 @@
 -- Refusals by their numbers.
 -- Assumes nothing.
-use Rattle.std.specs.Prelude.{ℕ, Some, None, Ok, Err, Option, Result}
+use Rattle.std.specs.Fmt.{decimal}
+use Rattle.std.specs.Prelude.{ℕ, List, ◌++◌, codes, Some, None, Ok, Err, Option, Result}
 use Rattle.store.specs.declared.faults.Refusal.{Refusal}
 use Rattle.store.specs.declared.faults.Refusal.TheVariants.{Shut, NotStream, PastLength, TooLong, NoRoom, DanglingPointer, SharedPointer, TableOverRoot, BadMinifat, BadRoot, BadStream, SharedHead, BadImage, NotHead, PastEnd, BadCount, NoEntry}
 use Rattle.store.specs.declared.faults.StoreFault.{StoreFault}
@@ -24,6 +25,11 @@ number_of NotHead = 14
 number_of PastEnd = 15
 number_of BadCount = 16
 number_of NoEntry = 17
+
+-- how a store's fault is printed
+abbrev pub fault_text : StoreFault → List ℕ
+fault_text f =
+    codes "refused " ++ (decimal (number_of f.refusal) ++ (codes " layer " ++ (decimal f.layer ++ (codes " place " ++ decimal f.place))))
 
 -- a store's refusal: number, layer, place
 pub record Refused : Type 0 where

@@ -1,16 +1,77 @@
 //! What a host notes beside its chains: entries and header words; and the extent of a stream.
 
-// The kinds of entries that are looked for.
-pub const OBJ_TYPE_STREAM: u8 = 2;
+ghost use Rattle.links.specs.Links.{END};
+ghost use Rattle.std.specs.Prelude.{◌≡◌, ◌==◌};
+ghost use Rattle.store.specs.Kinds.{kind_of, byte_of};
 
-pub const OBJ_TYPE_ROOT: u8 = 5;
+use links::consts::END_OF_CHAIN;
+
+// What kind of object an entry is. A damaged image can have a byte there that stands for none of the four; it is kept.
+#[derive(Clone, Copy, PartialEq, Eq, Debug)]
+pub enum ObjType {
+    Unallocated,
+    Storage,
+    Stream,
+    Root,
+    Unknown(u8),
+}
+
+impl ObjType {
+    // Whether it is the root's, by the byte that it stands for.
+    pub fn is_root(self) -> bool
+        ensures { result ≡ (byte_of self == 5) }
+    {
+        u8::from(self) == 5
+    }
+}
+
+impl From<u8> for ObjType {
+    ghost from_gives = { λ b r. r ≡ kind_of b };
+
+    fn from(byte: u8) -> ObjType {
+        match byte {
+            0 => ObjType::Unallocated,
+            1 => ObjType::Storage,
+            2 => ObjType::Stream,
+            5 => ObjType::Root,
+            other => ObjType::Unknown(other),
+        }
+    }
+}
+
+impl From<ObjType> for u8 {
+    ghost from_gives = { λ k r. r ≡ byte_of k };
+
+    fn from(kind: ObjType) -> u8 {
+        match kind {
+            ObjType::Unallocated => 0,
+            ObjType::Storage => 1,
+            ObjType::Stream => 2,
+            ObjType::Root => 5,
+            ObjType::Unknown(byte) => byte,
+        }
+    }
+}
 
 // A directory entry: what kind of object it is, where it starts, and how long it is.
 #[derive(Clone, Copy, PartialEq, Eq, Debug)]
 pub struct Entry {
-    pub kind: u8,
+    pub kind: ObjType,
     pub start: u32,
     pub length: u64,
+}
+
+impl Entry {
+    // An entry of no bytes.
+    pub fn empty(kind: ObjType) -> Entry
+        ensures { result ≡ record { kind = kind; start = END; length = 0 } }
+    {
+        Entry {
+            kind,
+            start: END_OF_CHAIN,
+            length: 0,
+        }
+    }
 }
 
 // The header words: where the MiniFAT starts, and how many sectors it has.

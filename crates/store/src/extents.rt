@@ -1,9 +1,10 @@
 //! The extent of a stream: where its chain starts, and how many bytes it has.
 
+ghost use Rattle.links.specs.Links.{END};
 ghost use Rattle.store.specs.Extents.{possible};
 ghost use Rattle.std.specs.Prelude.{◌≡◌, true, false, MatchOption};
 
-const END_OF_CHAIN: u32 = 0xffff_fffe;
+use links::consts::END_OF_CHAIN;
 
 // A start with a length. With length 0 there is no start, which is END, and with any other length there is one.
 #[derive(Clone, Copy)]
@@ -15,6 +16,7 @@ pub struct Extent {
 
 impl Extent {
     // The extent of a start and a length, or nothing where there can be none.
+    // Kept: an if. By `then` it was tried: that what the closure makes can be an extent stays open there (`invariant_of-result`).
     pub fn new(start: u32, length: u64) -> Option<Extent>
         ensures { MatchOption result (possible start length ≡ false) (λ e. (possible start length ≡ true) × (e.start ≡ start) × (e.length ≡ length)) }
     {
@@ -27,7 +29,7 @@ impl Extent {
 
     // The extent of no bytes.
     pub fn empty() -> Extent
-        ensures { (result.start ≡ 0xfffffffe) × (result.length ≡ 0) }
+        ensures { (result.start ≡ END) × (result.length ≡ 0) }
     {
         Extent {
             start: END_OF_CHAIN,

@@ -1,57 +1,67 @@
 //! What a refusal tells (docs/REFUSALS.md).
 
+ghost use Rattle.links.specs.Check as check;
 ghost use Rattle.std.specs.Prelude.{◌≡◌, Some};
-ghost use Rattle.store.specs.Refusals.{number_of};
+ghost use Rattle.store.specs.Refusals.{number_of, fault_text};
 
-// Why a call was refused. The list is closed.
+use links::checks::LinkFault;
+use std::fmt;
+
+// Why a call was refused, with the number of each refusal. The list is closed.
 #[derive(Clone, Copy, PartialEq, Eq, Debug)]
 pub enum Refusal {
-    Shut,
-    NotStream,
-    PastLength,
-    TooLong,
-    NoRoom,
-    DanglingPointer,
-    SharedPointer,
-    TableOverRoot,
-    BadMinifat,
-    BadRoot,
-    BadStream,
-    SharedHead,
-    BadImage,
-    NotHead,
-    PastEnd,
-    BadCount,
-    NoEntry,
+    Shut = 1,
+    NotStream = 2,
+    PastLength = 3,
+    TooLong = 4,
+    NoRoom = 5,
+    DanglingPointer = 6,
+    SharedPointer = 7,
+    TableOverRoot = 8,
+    BadMinifat = 9,
+    BadRoot = 10,
+    BadStream = 11,
+    SharedHead = 12,
+    BadImage = 13,
+    NotHead = 14,
+    PastEnd = 15,
+    BadCount = 16,
+    NoEntry = 17,
 }
 
 impl Refusal {
     pub fn number(self) -> u8
         ensures { result ≡ number_of self }
     {
-        match self {
-            Refusal::Shut => 1,
-            Refusal::NotStream => 2,
-            Refusal::PastLength => 3,
-            Refusal::TooLong => 4,
-            Refusal::NoRoom => 5,
-            Refusal::DanglingPointer => 6,
-            Refusal::SharedPointer => 7,
-            Refusal::TableOverRoot => 8,
-            Refusal::BadMinifat => 9,
-            Refusal::BadRoot => 10,
-            Refusal::BadStream => 11,
-            Refusal::SharedHead => 12,
-            Refusal::BadImage => 13,
-            Refusal::NotHead => 14,
-            Refusal::PastEnd => 15,
-            Refusal::BadCount => 16,
-            Refusal::NoEntry => 17,
+        self as u8
+    }
+
+    // The refusal of a store, by its layer, at a place.
+    pub fn at(self, layer: u8, place: u32) -> StoreFault
+        ensures { result ≡ record { refusal = self; layer = layer; place = place } }
+    {
+        StoreFault {
+            refusal: self,
+            layer,
+            place,
+        }
+    }
+}
+
+// What the check of a table found, as a refusal.
+impl From<LinkFault> for Refusal {
+    ghost from_gives = { λ f r. number_of r ≡ check.number_of f };
+
+    fn from(fault: LinkFault) -> Refusal {
+        match fault {
+            LinkFault::Dangling(_) => Refusal::DanglingPointer,
+            LinkFault::Shared(_) => Refusal::SharedPointer,
         }
     }
 }
 
 // A store's fault: what was refused, the store's layer, and the place.
+// Kept: the layer is a number, as hosts of other crates number their layers from 5 on.
 #[derive(Clone, Copy, PartialEq, Eq, Debug)]
 pub struct StoreFault {
     pub refusal: Refusal,
@@ -59,7 +69,19 @@ pub struct StoreFault {
     pub place: u32,
 }
 
+impl fmt::Display for StoreFault {
+    ghost output = { λ f. Some (fault_text f) };
+
+    fn fmt<W: fmt::Write>(&self, f: &mut fmt::Formatter<W>) -> fmt::Result {
+        let number = self.refusal.number();
+        let layer = self.layer;
+        let place = self.place;
+        write!(f, "refused {number} layer {layer} place {place}")
+    }
+}
+
 // The fault of a layer above: with it, whole, the store's fault that caused it, where one did.
+// Kept: its own fields, as with a StoreFault inside each use would take two steps (`fault.told.place`), and it is no store's.
 #[derive(Clone, Copy, PartialEq, Eq, Debug)]
 pub struct Fault {
     pub refusal: Refusal,
@@ -77,7 +99,7 @@ impl Fault {
             refusal,
             layer,
             place,
-            lower: self.lower,
+            ..self
         }
     }
 }

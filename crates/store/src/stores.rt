@@ -27,6 +27,7 @@ pub trait ChainStore {
     ghost lawful: { (s : Self) → Lawful most (meaning s) };
 
     // What a store keeps if it has it, and no call needs.
+    // Kept: a clause of each call, and no invariant of a type, as there are stores that do not have it.
     ghost sound: { Self → Type 0 };
 
     // The unit in bytes.
@@ -86,7 +87,7 @@ pub trait ChainStore {
 
 // A chain store that has entries and header words too. They are its notes, which chain calls keep.
 pub trait Host: ChainStore {
-    // How many entries there are. A host has 1 to 1,024 of them, and units of 512 or 4,096 bytes.
+    // How many entries there are.
     fn entries(&mut self) -> u32
         ensures told { result ≡ length (Self.ChainStore.meaning self.old).notes.entries }
         ensures hosted { Hosted (Self.ChainStore.meaning self.old) }
@@ -100,6 +101,7 @@ pub trait Host: ChainStore {
         ensures sound { Self.ChainStore.sound self.old → Self.ChainStore.sound self.new };
 
     // Sets start and length of an entry; its kind stays.
+    // Kept: start and length are two numbers, as an Extent would ask of callers that they go together.
     fn set_entry(&mut self, id: u32, start: u32, len: u32) -> Result<(), StoreFault>
         ensures told { told result ≡ answer (due_entry (Self.ChainStore.meaning self.old) Self.ChainStore.layer id) tt }
         ensures left { Self.ChainStore.meaning self.new ≡ entered (Self.ChainStore.meaning self.old) Self.ChainStore.layer id start len };
@@ -111,6 +113,9 @@ pub trait Host: ChainStore {
         ensures sound { Self.ChainStore.sound self.old → Self.ChainStore.sound self.new };
 
     // Sets the header words.
-    fn set_words(&mut self, start: u32, count: u32)
-        ensures { Self.ChainStore.meaning self.new ≡ worded (Self.ChainStore.meaning self.old) start count };
+    fn set_words(&mut self, words: Words)
+        ensures { Self.ChainStore.meaning self.new ≡ worded (Self.ChainStore.meaning self.old) words };
+
+    // What always holds of a host besides: it has 1 to 1,024 entries, and units of 512 or 4,096 bytes.
+    ghost hosted: { (s : Self) → Hosted (Self.ChainStore.meaning s) };
 }
