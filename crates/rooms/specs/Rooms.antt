@@ -1,16 +1,7 @@
 -- How far the table of a mini store can grow over a host.
 -- Assumes nothing.
 use Rattle.std.specs.Prelude.{ℕ, zero, suc, ◌+◌, ◌-◌, ◌/◌, Bool, cond, ◌&&◌, nat_le}
-
--- the host's unit in bytes; the links of the table; the root length in mini sectors; the sectors of the MiniFAT and of the
--- mini stream; the host's room
-pub record Ground : Type 0 where
-  pub unit : ℕ
-  pub links : ℕ
-  pub root : ℕ
-  pub fats : ℕ
-  pub minis : ℕ
-  pub spare : ℕ
+use Rattle.rooms.specs.declared.Ground.{Ground}
 
 -- x / y, rounded up
 abbrev pub up : ℕ → ℕ → ℕ
