@@ -21,11 +21,6 @@ pub left_no : {A : Type 0} (due : Option Refused) (r : Refused) (old new after :
 left_no due r old new after e n = rw e n
 
 module _ (m : Store) (layer h : ℕ) where
-  -- of what is no head 14 is due
-  module _ (none : m.chain h ≡ None) where
-    pub none_due : (due : Option Refused) → headed (m.chain h) layer h due ≡ refuse 14 layer h
-    none_due due = ap (λ o. headed o layer h due) none
-
   -- of a head what else is due
   module _ (xs : List ℕ) (some : m.chain h ≡ Some xs) where
     pub some_due : (due : Option Refused) → headed (m.chain h) layer h due ≡ due

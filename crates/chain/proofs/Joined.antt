@@ -1,9 +1,10 @@
 -- Chains as their units put together: their bytes, read and written unit by unit.
 -- Assumes nothing.
-use Rattle.std.proofs.Common.{◌≡◌, ℕ, zero, suc, ◌+◌, ◌*◌, ◌<◌, ◌≤◌, ◌≢◌, List, [], ◌∷◌, ◌++◌, length, get_or, take, drop, sym, refl, ap, ◌∙◌, inl, inr, append_assoc, mul-le-mul_right, suc-mul, zero-mul, arith}
+use Rattle.std.proofs.Common.{◌≡◌, ℕ, zero, suc, ◌+◌, ◌*◌, ◌<◌, ◌≤◌, ◌≢◌, List, [], ◌∷◌, ◌++◌, length, get_or, take, drop, refl, ap, ◌∙◌, inl, inr, mul-le-mul_right, suc-mul, zero-mul, arith}
 use Rattle.std.specs.List.{flat_map}
 use Rattle.std.proofs.lemmas.List.{length-append, length-take, length-drop, take_at}
 use Rattle.std.proofs.lemmas.Bool.{cases_lt}
+use Rattle.std.proofs.lemmas.Grind.{flat_map-append}
 use Rattle.links.specs.Links.{In, Apart}
 use Rattle.store.specs.Meaning.{laid}
 use Rattle.chain.specs.Units.{cell}
@@ -20,13 +21,9 @@ module _ (f : ℕ → List ℕ) (u : ℕ) where
   length_units (p ∷ ps) w =
       rw length-append (omega (arith, w p (inl refl), length_units ps (λ q i. w q (inr i)), suc-mul (length ps) u))
 
-  joined-append : (ps qs : List ℕ) → flat_map f (ps ++ qs) ≡ flat_map f ps ++ flat_map f qs
-  joined-append [] qs = refl
-  joined-append (p ∷ ps) qs = ap (λ l. f p ++ l) (joined-append ps qs) ∙ sym (append_assoc (f p) (flat_map f ps) (flat_map f qs))
-
   -- the first units
   pub take_units : (ps qs : List ℕ) → ((q : ℕ) → In q ps → length (f q) ≡ u) → take (length ps * u) (flat_map f (ps ++ qs)) ≡ flat_map f ps
-  take_units ps qs w = ap (take (length ps * u)) (joined-append ps qs) ∙ take_at (flat_map f ps) (flat_map f qs) (length ps * u) (length_units ps w)
+  take_units ps qs w = ap (take (length ps * u)) (flat_map-append f ps qs) ∙ take_at (flat_map f ps) (flat_map f qs) (length ps * u) (length_units ps w)
 
   -- a part that lies in one unit
   pub slice_units : (ps : List ℕ) (r i k : ℕ) → ((q : ℕ) → In q ps → length (f q) ≡ u) → r < length ps → i + k ≤ u

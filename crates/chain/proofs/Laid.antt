@@ -1,6 +1,7 @@
 -- `take`, `drop` and `laid` of lists put together: each is shown by its length and place by place.
 -- Assumes nothing.
-use Rattle.std.proofs.Common.{◌≡◌, ℕ, ◌+◌, ◌-◌, ◌*◌, ◌≤◌, List, [], ◌++◌, length, take, drop, ◌∙◌, arith, rules}
+use Rattle.std.proofs.Common.{◌≡◌, ℕ, ◌+◌, ◌-◌, ◌*◌, ◌≤◌, List, [], ◌++◌, length, take, drop, sym, ap, ◌∙◌, arith, rules}
+use Rattle.std.proofs.Math.Seq.{take-add}
 use Rattle.store.specs.Meaning.{laid}
 use Rattle.chain.specs.Units.{cell}
 use Rattle.std.proofs.lemmas.List.{drop-drop, places, same_lists}
@@ -13,10 +14,6 @@ slice_left xs ys j n h = same_lists _ _ (search (rules, places)) (λ k d l. grin
 
 pub drop_right : (xs ys : List ℕ) (u n : ℕ) → length xs ≡ u → drop (u + n) (xs ++ ys) ≡ drop n ys
 drop_right xs ys u n h = same_lists _ _ (search (rules, places)) (λ k d l. grind (arith, places))
-
--- a part is read in two
-pub take_add : (xs : List ℕ) (m n : ℕ) → take (m + n) xs ≡ take m xs ++ take n (drop m xs)
-take_add xs m n = same_lists _ _ (search (rules, places)) (λ k d l. grind (arith, places))
 
 pub laid_none : (xs : List ℕ) (i : ℕ) → laid xs i [] ≡ xs
 unfolding laid
@@ -53,10 +50,12 @@ pub slice_after : (xs ys : List ℕ) (b n i : ℕ) → i + length ys ≤ b → i
 unfolding laid
 slice_after xs ys b n i h k = same_lists _ _ (search (rules, places)) (λ j d l. grind (arith, places))
 
--- a read of xs from a on has come d far, and a piece of k more is read into place
-pub read_more : (out piece xs : List ℕ) (a d k : ℕ) → take d out ≡ take d (drop a xs) → piece ≡ take k (drop (a + d) xs) → length piece ≡ k → d + k ≤ length out → take (d + k) (put_mid d (d + k - d) out piece) ≡ take (d + k) (drop a xs)
-read_more out piece xs a d k e f l h =
-    take-put_mid d (d + k - d) out piece (d + k) (omega arith) (omega arith) ∙ rw (e, f, take_add (drop a xs) d k, drop-drop d a xs)
+-- a read of xs from a on has come d far, and a piece more, up to e, is read into place
+pub read_more : (out piece xs : List ℕ) (a d e : ℕ) → take d out ≡ take d (drop a xs) → piece ≡ take (e - d) (drop (a + d) xs) → length piece ≡ e - d → d ≤ e → e ≤ length out
+    → take e (put_mid d (e - d) out piece) ≡ take e (drop a xs)
+read_more out piece xs a d e p q l m n =
+    let s : d + (e - d) ≡ e = omega arith in
+    take-put_mid d (e - d) out piece e (omega arith) (omega arith) ∙ rw (p, q, ← drop-drop d a xs) (sym (take-add d (e - d) (drop a xs)) ∙ ap (λ k. take k (drop a xs)) s)
 
 -- a part of a unit is that part of all the bytes
 pub slice_cell : (u : ℕ) (bs : List ℕ) (p i k : ℕ) → i + k ≤ u → take k (drop i (cell u bs p)) ≡ take k (drop (p * u + i) bs)

@@ -6,8 +6,8 @@ use Rattle.links.specs.Links.{END, at}
 use Rattle.links.proofs.Paths.{parts}
 use Rattle.links.specs.Chains.{Taken}
 use Rattle.store.specs.Meaning.{bytes_of, zeros, with_chain}
-use Rattle.chain.specs.Webs.{Web, Woven, Took, Behind, EndsWith, stored, lengthened}
-use Rattle.chain.proofs.Strands.{chains_some, ends_next, behind_stored, took_stored}
+use Rattle.chain.specs.Webs.{Web, Woven, Took, Behind, EndsWith, stored, with_more, with_new, lengthened}
+use Rattle.chain.proofs.Strands.{chains_some, bytes_is, ends_next, behind_stored, took_stored}
 use Rattle.chain.proofs.Zeros.{chain_twice, no_zeros, zeros_sum, more-zeros}
 
 -- after i of n units: the chain of h, which ended with last in w, ends with e in v
@@ -18,14 +18,13 @@ pub record Growing (next : Web → ℕ) (put : Web → ℕ → Web) (w : Web) (h
   pub ready : v.ready + i ≡ w.ready
   pub room : v.room + i ≡ w.room
   pub left : lengthened next put (n - i) v e ≡ lengthened next put n w last
-  pub stores : stored v ≡ with_chain (stored w) h (Some (bytes_of (stored w) h ++ zeros (stored w) i)) (w.room - i)
+  pub stores : stored v ≡ with_more w h i
 
-module _ (next : Web → ℕ) (put : Web → ℕ → Web) (w : Web) (h last n : ℕ) where
+module _ {next : Web → ℕ} {put : Web → ℕ → Web} {w : Web} {h last n : ℕ} where
   pub growing_start : Woven w → ((es : List ℕ) × EndsWith w h last es) → Growing next put w h last n 0 w last
   growing_start ok e =
       let z : n - 0 ≡ n = omega arith in
       let y : w.room - 0 ≡ w.room = omega arith in
-      let c = chains_some w ok h _ e.1 in
       record {
         front = e.0;
         ends = e.1;
@@ -33,12 +32,12 @@ module _ (next : Web → ℕ) (put : Web → ℕ → Web) (w : Web) (h last n : 
         ready = omega arith;
         room = omega arith;
         left = ap (λ k. lengthened next put k w last) z;
-        stores = sym (rw y (no_zeros (stored w) h (bytes_of (stored w) h) (c ∙ ap Some (sym (ap (λ o. unwrap_or o []) c)))));
+        stores = sym (rw y (no_zeros (stored w) h (bytes_of (stored w) h) (chains_some w ok h _ e.1 ∙ ap Some (sym (bytes_is w ok h _ e.1)))));
       }
 
-  module _ (i : ℕ) (v x : Web) (e f : ℕ) (g : Growing next put w h last n i v e) where
-    pub growing_more : i < n → Woven v → Woven x → f ≡ next v → x ≡ put v e → Behind v x e f → Growing next put w h last n (i + 1) x f
-    growing_more l wv wx ef ex b =
+  module _ {i : ℕ} {v : Web} {e : ℕ} (g : Growing next put w h last n i v e) where
+    pub growing_more : {x : Web} {f : ℕ} → i < n → Woven v → Woven x → f ≡ next v → x ≡ put v e → Behind v x e f → Growing next put w h last n (i + 1) x f
+    growing_more {x} {f} l wv wx ef ex b =
         let k : n - i ≡ suc (n - (i + 1)) = omega arith in
         let j : i + 1 ≡ suc i = omega arith in
         let r : v.room - 1 ≡ w.room - (i + 1) = omega (arith, g.room) in
@@ -55,21 +54,19 @@ module _ (next : Web → ℕ) (put : Web → ℕ → Web) (w : Web) (h last n : 
               ∙ (λ t. with_chain (stored w) h (Some (bytes_of (stored w) h ++ zeros (stored w) (sym j t))) (r t));
         }
 
-  pub growing_end : (i : ℕ) (v : Web) (e : ℕ) → Growing next put w h last n i v e → at v.links e ≡ END
-  growing_end i v e g = (parts (at v.links) h END e g.front [] g.ends.path).2
+    pub growing_end : at v.links e ≡ END
+    growing_end = (parts (at v.links) h END e g.front [] g.ends.path).2
 
-  pub growing_all : (i : ℕ) (v : Web) (e : ℕ) → Growing next put w h last n i v e → n ≤ i
-      → (v ≡ lengthened next put n w last) × (stored v ≡ with_chain (stored w) h (Some (bytes_of (stored w) h ++ zeros (stored w) n)) (w.room - n))
-  growing_all i v e g l =
-      let z : n - i ≡ 0 = omega (arith, g.some) in
-      let q : n ≡ i = omega (arith, g.some) in
-      (rw z at g.left, rw q g.stores)
+    pub growing_all : n ≤ i → (v ≡ lengthened next put n w last) × (stored v ≡ with_more w h n)
+    growing_all l =
+        let z : n - i ≡ 0 = omega (arith, g.some) in
+        let q : n ≡ i = omega (arith, g.some) in
+        (rw z at g.left, rw q g.stores)
 
 -- a chain that is begun with one unit, and lengthened by the others
-pub begun : (w v x : Web) → Woven w → Woven v → (f n : ℕ) → 0 < n → Took w v f → Taken (at w.links) (at v.links) f
-    → stored x ≡ with_chain (stored v) f (Some (bytes_of (stored v) f ++ zeros (stored v) (n - 1))) (v.room - (n - 1))
-    → stored x ≡ with_chain (stored w) f (Some (zeros (stored w) n)) (w.room - n)
-begun w v x ww wv f n some t k e =
+pub begun : {w v : Web} (x : Web) {f n : ℕ} → Woven w → Woven v → 0 < n → Took w v f → Taken (at w.links) (at v.links) f
+    → stored x ≡ with_more v f (n - 1) → stored x ≡ with_new w f n
+begun {w} {v} x {f} {n} ww wv some t k e =
     let s = took_stored w v ww wv f t k in
     let r : v.room - (n - 1) ≡ w.room - n = omega (arith, t.room) in
     let m = with_chain (stored w) f (Some (zeros (stored w) 1)) (w.room - 1) in

@@ -1,29 +1,24 @@
 -- The units of a chain given back one after the other, from its head on.
 -- Assumes nothing.
-use Rattle.std.proofs.Common.{◌≡◌, ℕ, suc, ◌+◌, ◌-◌, ◌<◌, ◌≤◌, ◌≢◌, List, [], ◌∷◌, length, Some, None, Option, unwrap_or, sym, refl, ap, ◌∙◌, inl, inr, arith}
+use Rattle.std.proofs.Common.{◌≡◌, ℕ, suc, ◌+◌, ◌-◌, ◌<◌, ◌≤◌, ◌≢◌, List, [], ◌∷◌, length, None, sym, refl, ap, ◌∙◌, inl, inr, ⊎_elim, arith}
 use Rattle.links.specs.Links.{FREE, POINTERS, at, In, Path, Head}
 use Rattle.links.specs.Chains.{Wrote, Wiping}
-use Rattle.links.specs.Walk.{chain_of}
 use Rattle.links.proofs.Counts.{inside}
 use Rattle.links.proofs.Effects.{wrote-set, free_one}
 use Rattle.links.proofs.Paths.{same_head, starts, used}
-use Rattle.links.proofs.Traces.{chain_head}
 use Rattle.links.proofs.Wipes.{wipe, wiping_none, wiping_steps}
-use Rattle.store.specs.Meaning.{with_chain}
 use Rattle.chain.specs.Units.{cell}
-use Rattle.chain.specs.Webs.{Web, Woven, Gave, path_of, stored, released}
-use Rattle.chain.proofs.Strands.{chains_none, chain_kept, one_chain}
+use Rattle.chain.specs.Webs.{Web, Woven, Gave, path_of, stored, without, released}
+use Rattle.chain.proofs.Strands.{cases_chain, chains_none, chain_kept, one_chain}
 
 -- the path of a head
 pub path_head : (w : Web) → Woven w → (h : ℕ) → 0 < length (path_of w.links h) → Head (at w.links) h (path_of w.links h)
-path_head w ok h l = go (chain_of w.links h) refl l
-  where
-    go : (o : Option (List ℕ)) → chain_of w.links h ≡ o → 0 < length (unwrap_or o []) → Head (at w.links) h (unwrap_or o [])
-    go None e l = absurd (omega arith)
-    go (Some ps) e l = (chain_head w.links ok.few h ps).0 e
+path_head w ok h l = ⊎_elim (λ s. rw s.1 s.2) (λ e. absurd (let z : length (path_of w.links h) ≡ 0 = rw e refl in omega arith)) (cases_chain w ok h)
 
 -- after i of n units of the chain ps of h, at the place p of v
 pub record Releasing (gave : Web → ℕ → Web) (w : Web) (h : ℕ) (ps : List ℕ) (n i : ℕ) (v : Web) (p : ℕ) : Type 0 where
+  pub chain : Head (at w.links) h ps
+  pub units : n ≡ length ps
   pub rest : List ℕ
   pub sum : i + length rest ≡ n
   pub way : Path (at v.links) p rest
@@ -36,11 +31,13 @@ pub record Releasing (gave : Web → ℕ → Web) (w : Web) (h : ℕ) (ps : List
   pub other : (q : ℕ) → (In q ps → ⊥) → cell w.unit v.bytes q ≡ cell w.unit w.bytes q
   pub left : released gave (n - i) v p ≡ released gave n w h
 
-module _ (gave : Web → ℕ → Web) (w : Web) (h : ℕ) (ps : List ℕ) (n : ℕ) (d : Head (at w.links) h ps) (e : n ≡ length ps) where
-  pub releasing_start : Releasing gave w h ps n 0 w h
-  releasing_start =
+module _ {gave : Web → ℕ → Web} {w : Web} {h : ℕ} {ps : List ℕ} {n : ℕ} where
+  pub releasing_start : Head (at w.links) h ps → n ≡ length ps → Releasing gave w h ps n 0 w h
+  releasing_start d e =
       let z : n - 0 ≡ n = omega arith in
       record {
+        chain = d;
+        units = e;
         rest = ps;
         sum = omega arith;
         way = d.path;
@@ -54,13 +51,13 @@ module _ (gave : Web → ℕ → Web) (w : Web) (h : ℕ) (ps : List ℕ) (n : �
         left = ap (λ k. released gave k w h) z;
       }
 
-  module _ (i : ℕ) (v : Web) (p : ℕ) (r : Releasing gave w h ps n i v p) where
+  module _ {i : ℕ} {v : Web} {p : ℕ} (r : Releasing gave w h ps n i v p) where
     -- the next place can be given back
     pub releasing_at : i < n → (at v.links p ≢ FREE) × ((q : ℕ) → at v.links q ≢ p)
     releasing_at l = let c = r.head (omega (arith, r.sum)) in ((used _ p p r.rest c.path (starts _ p r.rest c)).0, c.first)
 
-    pub releasing_more : i < n → Woven v → (u : Web) (q : ℕ) → q ≡ at v.links p → u ≡ gave v p → Gave v u p → Releasing gave w h ps n (i + 1) u q
-    releasing_more l wv u q eq eu g = go r.rest r.sum (r.head (omega (arith, r.sum))) r.among
+    pub releasing_more : {u : Web} {q : ℕ} → i < n → Woven v → q ≡ at v.links p → u ≡ gave v p → Gave v u p → Releasing gave w h ps n (i + 1) u q
+    releasing_more {u} {q} l wv eq eu g = go r.rest r.sum (r.head (omega (arith, r.sum))) r.among
       where
         live : at v.links p ≢ FREE
         live = (releasing_at l).0
@@ -74,12 +71,14 @@ module _ (gave : Web → ℕ → Web) (w : Web) (h : ℕ) (ps : List ℕ) (n : �
             let k : n - i ≡ suc (n - (i + 1)) = omega arith in
             let f = free_one _ _ p qs wv.checked (record { place = c.place; first = c.first; path = (refl, c.path.1, c.path.2) }) change in
             record {
+              chain = r.chain;
+              units = r.units;
               rest = qs;
               sum = omega arith;
               way = on qs c.path.2 f.right;
               head = further qs c.path.2 f.right;
               among = λ y j. m y (inr j);
-              wiping = rw eq (((wiping_steps _ _ h p ps d.path r.wiping (at u.links)).0 c.place).2 change);
+              wiping = rw eq (((wiping_steps _ _ h p ps r.chain.path r.wiping (at u.links)).0 c.place).2 change);
               unit = g.unit ∙ r.unit;
               notes = g.notes ∙ r.notes;
               room = omega (arith, g.room, r.room);
@@ -97,13 +96,13 @@ module _ (gave : Web → ℕ → Web) (w : Web) (h : ℕ) (ps : List ℕ) (n : �
             on [] t c = eq ∙ t
             on (y ∷ ys) t c = (further (y ∷ ys) t c (omega arith)).path
 
-    pub releasing_all : Woven w → Woven v → n ≤ i → (v ≡ released gave n w h) × (stored v ≡ with_chain (stored w) h None (w.room + n))
+    pub releasing_all : Woven w → Woven v → n ≤ i → (v ≡ released gave n w h) × (stored v ≡ without w h n)
     releasing_all ww wv l =
         let z : n - i ≡ 0 = omega arith in
-        let gone = wipe _ _ h ps ww.checked d ((wiping_steps _ _ h p ps d.path r.wiping (at v.links)).1 (done r.rest r.sum r.way)) in (
+        let gone = wipe _ _ h ps ww.checked r.chain ((wiping_steps _ _ h p ps r.chain.path r.wiping (at v.links)).1 (done r.rest r.sum r.way)) in (
           rw z at r.left,
           one_chain w v h None (w.room + n) r.unit r.notes (omega (arith, r.room, r.sum)) (chains_none v wv h gone.gone)
-              (λ k m. chain_kept w v ww wv r.unit k (λ qs. gone.others k qs m m) (λ qs c q j. r.other q (λ o. m (sym (same_head _ h k q ps qs ww.checked d c o j))))),
+              (λ k m. chain_kept w v ww wv r.unit k (λ qs. gone.others k qs m m) (λ qs c q j. r.other q (λ o. m (sym (same_head _ h k q ps qs ww.checked r.chain c o j))))),
         )
       where
         done : (rest : List ℕ) → i + length rest ≡ n → Path (at v.links) p rest → POINTERS ≤ p

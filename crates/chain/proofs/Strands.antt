@@ -1,12 +1,13 @@
 -- What a change of links and of one unit means for the chains.
 -- Assumes nothing.
-use Rattle.std.proofs.Common.{◌≡◌, ℕ, ◌-◌, ◌*◌, ◌<◌, eqb, ◌≢◌, ◌⊎◌, ◌↔◌, List, [], ◌∷◌, ◌++◌, length, replicate, Some, None, Option, unwrap_or, sym, refl, ap, ◌∙◌, inl, inr, ⊎_elim, append-nil, suc-mul, zero-mul, arith}
+use Rattle.std.proofs.Common.{◌≡◌, ℕ, ◌*◌, ◌<◌, eqb, ◌≢◌, ◌⊎◌, ◌↔◌, List, [], ◌∷◌, ◌++◌, length, replicate, Some, None, Option, unwrap_or, sym, refl, ap, ◌∙◌, inl, inr, ⊎_elim, append-nil, suc-mul, zero-mul, arith}
 use mathlib.Core.Path.{fun_ext}
 use Rattle.std.specs.List.{flat_map}
 use Rattle.std.specs.Map.{update}
 use Rattle.std.proofs.lemmas.List.{flat_map_more}
 use Rattle.std.proofs.lemmas.Map.{update_here, update_apart}
 use Rattle.std.proofs.lemmas.Bool.{cases_eq, lt-ltb}
+use Rattle.std.proofs.lemmas.Option.{none-some}
 use Rattle.links.specs.Links.{FREE, at, In, Head}
 use Rattle.links.specs.Chains.{Taken, Extended}
 use Rattle.links.specs.Walk.{chain_of}
@@ -15,39 +16,37 @@ use Rattle.links.proofs.Paths.{same_head, starts, used}
 use Rattle.links.proofs.Traces.{chain_head}
 use Rattle.store.specs.Meaning.{Store, bytes_of, zeros, with_chain}
 use Rattle.chain.specs.Units.{cell, content}
-use Rattle.chain.specs.Webs.{Web, Woven, Beside, Took, Behind, EndsWith, path_of, stored}
+use Rattle.chain.specs.Webs.{Web, Woven, Beside, Took, Behind, EndsWith, path_of, stored, with_more, with_new}
 use Rattle.chain.proofs.Joined.{joined_same}
 
-same_option : (o p : Option (List ℕ)) → ((qs : List ℕ) → (o ≡ Some qs) ↔ (p ≡ Some qs)) → o ≡ p
-same_option None None h = refl
-same_option None (Some y) h = (h y).1 refl
-same_option (Some x) p h = sym ((h x).0 refl)
+pub some_in : (p : ℕ) (ps : List ℕ) → In p ps → 0 < length ps
+some_in p [] i = absurd i
+some_in p (x ∷ ps) i = omega arith
 
--- the chain of a head, and of what is none
+-- a place is a head, with the places of its chain, or none
 module _ (w : Web) (ok : Woven w) (h : ℕ) where
+  pub cases_chain : ((ps : List ℕ) × (chain_of w.links h ≡ Some ps) × Head (at w.links) h ps) ⊎ (chain_of w.links h ≡ None)
+  cases_chain = go (chain_of w.links h) refl
+    where
+      go : (o : Option (List ℕ)) → chain_of w.links h ≡ o → ((ps : List ℕ) × (chain_of w.links h ≡ Some ps) × Head (at w.links) h ps) ⊎ (chain_of w.links h ≡ None)
+      go None e = inr e
+      go (Some ps) e = inl (ps, e, (chain_head w.links ok.few h ps).0 e)
+
+  pub no_head : chain_of w.links h ≡ None → (ps : List ℕ) → Head (at w.links) h ps → ⊥
+  no_head e ps d = none-some ps (sym e ∙ (chain_head w.links ok.few h ps).1 d)
+
+  pub path_is : (ps : List ℕ) → Head (at w.links) h ps → path_of w.links h ≡ ps
+  path_is ps d = ap (λ o. unwrap_or o []) ((chain_head w.links ok.few h ps).1 d)
+
   pub chains_some : (ps : List ℕ) → Head (at w.links) h ps → (stored w).chain h ≡ Some (flat_map (cell w.unit w.bytes) ps)
   unfolding content
-  chains_some ps d =
-      let e : path_of w.links h ≡ ps = ap (λ o. unwrap_or o []) ((chain_head w.links ok.few h ps).1 d) in
-      rw (e, lt-ltb 0 (length ps) (some ps (starts _ h ps d))) refl
-    where
-      some : (ps : List ℕ) → In h ps → 0 < length ps
-      some [] i = absurd i
-      some (p ∷ ps) i = omega arith
+  chains_some ps d = rw (path_is ps d, lt-ltb 0 (length ps) (some_in h ps (starts _ h ps d))) refl
 
   pub chains_none : ((ps : List ℕ) → Head (at w.links) h ps → ⊥) → (stored w).chain h ≡ None
-  chains_none n = go (chain_of w.links h) refl
-    where
-      go : (o : Option (List ℕ)) → chain_of w.links h ≡ o → (stored w).chain h ≡ None
-      go None e = rw e refl
-      go (Some ps) e = absurd (n ps ((chain_head w.links ok.few h ps).0 e))
+  chains_none n = ⊎_elim (λ s. absurd (n s.0 s.2)) (λ e. rw e refl) cases_chain
 
-  pub cases_head : ((ps : List ℕ) × Head (at w.links) h ps) ⊎ ((ps : List ℕ) → Head (at w.links) h ps → ⊥)
-  cases_head = go (chain_of w.links h) refl
-    where
-      go : (o : Option (List ℕ)) → chain_of w.links h ≡ o → ((ps : List ℕ) × Head (at w.links) h ps) ⊎ ((ps : List ℕ) → Head (at w.links) h ps → ⊥)
-      go None e = inr (λ ps d. let f = (chain_head w.links ok.few h ps).1 d in let z : ◌≡◌ {A = ℕ} 0 1 = cc in omega arith)
-      go (Some ps) e = inl (ps, (chain_head w.links ok.few h ps).0 e)
+  pub bytes_is : (ps : List ℕ) → Head (at w.links) h ps → bytes_of (stored w) h ≡ flat_map (cell w.unit w.bytes) ps
+  bytes_is ps d = ap (λ o. unwrap_or o []) (chains_some ps d)
 
 -- a chain that is not linked anew and whose units keep their bytes is as it was
 module _ (w v : Web) (ww : Woven w) (wv : Woven v) (unit : v.unit ≡ w.unit) where
@@ -59,8 +58,8 @@ module _ (w v : Web) (ww : Woven w) (wv : Woven v) (unit : v.unit ≡ w.unit) wh
       → ((qs : List ℕ) → Head (at w.links) k qs → (q : ℕ) → In q qs → cell w.unit v.bytes q ≡ cell w.unit w.bytes q)
       → (stored v).chain k ≡ (stored w).chain k
   chain_kept k heads same = ⊎_elim
-      (λ d. chains_some v wv k d.0 ((heads d.0).0 d.1) ∙ ap Some (cells_kept d.0 (same d.0 d.1)) ∙ sym (chains_some w ww k d.0 d.1))
-      (λ n. chains_none v wv k (λ ps d. n ps ((heads ps).1 d)) ∙ sym (chains_none w ww k n)) (cases_head w ww k)
+      (λ s. chains_some v wv k s.0 ((heads s.0).0 s.2) ∙ ap Some (cells_kept s.0 (same s.0 s.2)) ∙ sym (chains_some w ww k s.0 s.2))
+      (λ e. let n = no_head w ww k e in chains_none v wv k (λ ps d. n ps ((heads ps).1 d)) ∙ sym (chains_none w ww k n)) (cases_chain w ww k)
 
 -- beside the unit f
 module _ (w v : Web) (ww : Woven w) (wv : Woven v) (f : ℕ) (b : Beside w v f) where
@@ -104,7 +103,7 @@ module _ (w v : Web) (ww : Woven w) (wv : Woven v) (h last f : ℕ) (es : List �
   longer : (stored v).chain h ≡ Some (bytes_of (stored w) h ++ zeros (stored w) 1)
   longer =
       let ps = es ++ last ∷ [] in
-      let was : bytes_of (stored w) h ≡ flat_map (cell w.unit w.bytes) ps = ap (λ o. unwrap_or o []) (chains_some w ww h ps e) in
+      let was = bytes_is w ww h ps e in
       let one : 1 * w.unit ≡ w.unit = omega (arith, suc-mul 0 w.unit, zero-mul w.unit) in
       let same = cells_same w v ww wv f b.took.beside h ps e (free_off w ww f b.took.free h ps e) in
       let zero : cell v.unit v.bytes f ≡ replicate w.unit 0 = rw b.took.beside.unit b.took.zero in
@@ -118,12 +117,11 @@ module _ (w v : Web) (ww : Woven w) (wv : Woven v) (h last f : ℕ) (es : List �
       inner : (qs : List ℕ) → Head (at v.links) f qs → f ≡ h
       inner qs d = sym (same_head _ h f f _ qs grown.checked ends_next d (in_right f (es ++ last ∷ []) (f ∷ []) (inl refl)) (starts _ f qs d))
 
-  pub behind_stored : stored v ≡ with_chain (stored w) h (Some (bytes_of (stored w) h ++ zeros (stored w) 1)) (w.room - 1)
+  pub behind_stored : stored v ≡ with_more w h 1
   behind_stored = one_chain w v h _ _ b.took.beside.unit b.took.beside.notes (omega (arith, b.took.room)) longer other
 
 -- the unit f became a chain of its own
-pub took_stored : (w v : Web) → Woven w → Woven v → (f : ℕ) → Took w v f → Taken (at w.links) (at v.links) f
-    → stored v ≡ with_chain (stored w) f (Some (zeros (stored w) 1)) (w.room - 1)
+pub took_stored : (w v : Web) → Woven w → Woven v → (f : ℕ) → Took w v f → Taken (at w.links) (at v.links) f → stored v ≡ with_new w f 1
 took_stored w v ww wv f t k =
     let one : 1 * w.unit ≡ w.unit = omega (arith, suc-mul 0 w.unit, zero-mul w.unit) in
     let zero : cell v.unit v.bytes f ≡ replicate w.unit 0 = rw t.beside.unit t.zero in

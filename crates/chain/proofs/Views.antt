@@ -1,12 +1,18 @@
 -- The same at a view: where a cursor stands, what a piece is, and writes one after another.
 -- Assumes nothing.
-use Rattle.std.proofs.Common.{◌≡◌, ℕ, ◌+◌, ◌-◌, ◌*◌, ◌<◌, ◌≤◌, List, [], ◌++◌, length, get_or, take, drop, sym, refl, ap, ◌∙◌, add-mul, lt_of_mul-lt-mul_right, zero-mul, arith}
-use Rattle.std.proofs.lemmas.List.{length-take-le}
+use Rattle.std.proofs.Common.{◌≡◌, ℕ, ◌+◌, ◌-◌, ◌*◌, ◌/◌, ◌%◌, ◌<◌, ◌≤◌, ◌≢◌, List, [], ◌++◌, length, get_or, take, drop, Some, None, ⊎_elim, sym, refl, ap, ◌∙◌, lt_of_mul-lt-mul_right, arith}
+use Rattle.std.proofs.lemmas.Bool.{lt-ltb, ltb-true, cases_lt}
+use Rattle.std.proofs.lemmas.List.{length-take, length-drop, length-take-le}
+use Rattle.std.proofs.lemmas.Option.{cond_some, none-some}
+use Rattle.std.proofs.Math.Seq.{take-add}
+use Rattle.std.proofs.lemmas.Nat.{div-add-mod', mod_below}
+use borrow.Rule.Slice.PartMut.{put_mid}
 use Rattle.links.specs.Links.{In}
 use Rattle.store.specs.Meaning.{laid}
 use Rattle.chain.specs.declared.pieces.Cursor.{Cursor}
-use Rattle.chain.specs.Units.{View, Whole, cell, content, put, On, Wrote}
-use Rattle.chain.proofs.Laid.{laid_none, laid-laid, length-laid, take_add}
+use Rattle.chain.specs.declared.pieces.Piece.{Piece}
+use Rattle.chain.specs.Units.{View, Whole, cell, content, put, piece, On, Wrote}
+use Rattle.chain.proofs.Laid.{laid_none, laid-laid, length-laid, read_more}
 use Rattle.chain.proofs.Joined.{in_get_d, length_units, slice_units, laid_units, joined_same, length-cell, cell_same, cell_other}
 
 module _ (v : View) (ok : Whole v) (h : ℕ) where
@@ -17,55 +23,74 @@ module _ (v : View) (ok : Whole v) (h : ℕ) where
   unfolding content
   length-content = length_units (cell v.unit v.bytes) v.unit (v.path h) unit_whole
 
-  -- an offset within the chain has its rank within the path
-  rank_below : (r i : ℕ) → r * v.unit + i < length (content v h) → r < length (v.path h)
-  rank_below r i l = lt_of_mul-lt-mul_right v.unit (omega (arith, length-content))
+  -- an offset x within the chain, the i-th byte of the unit of rank r
+  module _ (r i x : ℕ) (sum : r * v.unit + i ≡ x) (within : x < length (content v h)) where
+    pub rank_in : r < length (v.path h)
+    rank_in = lt_of_mul-lt-mul_right v.unit (omega (arith, length-content))
 
-  slice_content : (r i k : ℕ) → r < length (v.path h) → i + k ≤ v.unit
-      → take k (drop (r * v.unit + i) (content v h)) ≡ take k (drop i (cell v.unit v.bytes (get_or (v.path h) r 0)))
-  unfolding content
-  slice_content r i k l m = slice_units (cell v.unit v.bytes) v.unit (v.path h) r i k unit_whole l m
+    in_path : In (get_or (v.path h) r 0) (v.path h)
+    in_path = in_get_d (v.path h) r rank_in
 
-  put-content : (r i : ℕ) (ys : List ℕ) → r < length (v.path h) → i + length ys ≤ v.unit
-      → content (put v (get_or (v.path h) r 0) i ys) h ≡ laid (content v h) (r * v.unit + i) ys
-  unfolding content
-  put-content r i ys l m =
-      let p = get_or (v.path h) r 0 in
-      let b = ok.inner h p (in_get_d (v.path h) r l) in
-      laid_units (cell v.unit v.bytes) (cell v.unit (laid v.bytes (p * v.unit + i) ys)) v.unit i ys m (v.path h) r unit_whole (ok.apart h) l
-      (cell_same v.unit v.bytes p b i ys m) (cell_other v.unit v.bytes p b i ys m)
+    pub place_in : get_or (v.path h) r 0 * v.unit + v.unit ≤ length v.bytes
+    place_in = ok.inner h _ in_path
 
--- where a cursor stands
-module _ (v : View) (ok : Whole v) (h a : ℕ) (c : Cursor) (on : On v h a c) (more : a + c.done < length (content v h)) where
-  pub rank_in : c.rank < length (v.path h)
-  rank_in = rank_below v ok h c.rank c.off (omega arith)
+    pub slice_in : (k : ℕ) → i + k ≤ v.unit → take k (drop x (content v h)) ≡ take k (drop i (cell v.unit v.bytes (get_or (v.path h) r 0)))
+    unfolding content
+    slice_in k m = rw (← sum) (slice_units (cell v.unit v.bytes) v.unit (v.path h) r i k unit_whole rank_in m)
 
-  pub place_here : c.place ≡ get_or (v.path h) c.rank 0
-  place_here = on.here rank_in
+    pub wrote_in : (ys : List ℕ) → i + length ys ≤ v.unit → Wrote v (put v (get_or (v.path h) r 0) i ys) h x ys
+    unfolding content
+    wrote_in ys m =
+        let p = get_or (v.path h) r 0 in
+        let others : (q : ℕ) → q ≢ p → cell v.unit (laid v.bytes (p * v.unit + i) ys) q ≡ cell v.unit v.bytes q = cell_other v.unit v.bytes p place_in i ys m in
+        record {
+          unit = refl;
+          path = refl;
+          kept = refl;
+          below = refl;
+          long = length-laid v.bytes ys (p * v.unit + i) (omega (arith, place_in));
+          chain = laid_units (cell v.unit v.bytes) (cell v.unit (laid v.bytes (p * v.unit + i) ys)) v.unit i ys m (v.path h) r unit_whole (ok.apart h) rank_in
+              (cell_same v.unit v.bytes p place_in i ys m) others ∙ ap (λ y. laid (content v h) y ys) sum;
+          other = λ q n. others q (λ e. n (rw e in_path));
+        }
 
-  pub place_in : c.place * v.unit + v.unit ≤ length v.bytes
-  place_in = rw place_here (ok.inner h _ (in_get_d (v.path h) c.rank rank_in))
+-- the unit where an offset within the chain lies
+pub units_in : (v : View) → Whole v → (h x : ℕ) → x < length (content v h) → x / v.unit < length (v.path h)
+units_in v ok h x within = rank_in v ok h (x / v.unit) (x % v.unit) x (div-add-mod' x v.unit) within
 
-  -- past its unit there is another
-  pub rank_next : v.unit ≤ c.off → c.rank + 1 < length (v.path h)
-  rank_next l = rank_below v ok h (c.rank + 1) (c.off - v.unit) (omega (arith, add-mul c.rank 1 v.unit))
+-- what a piece says
+pub record Lies (v : View) (c : Cursor) (n : ℕ) (p : Piece) : Type 0 where
+  pub from : p.from ≡ c.done
+  pub some : p.from < p.to
+  pub all : p.to ≤ n
+  pub inside : p.off + (p.to - p.from) ≤ v.unit
+  pub unit : p.place * v.unit + v.unit ≤ length v.bytes
+  pub slice : take (p.to - p.from) (drop (c.at + c.done) (content v c.head)) ≡ take (p.to - p.from) (drop p.off (cell v.unit v.bytes p.place))
+  pub wrote : (ys : List ℕ) → length ys ≡ p.to - p.from → Wrote v (put v p.place p.off ys) c.head (c.at + c.done) ys
 
-  pub slice_here : (k : ℕ) → c.off + k ≤ v.unit → take k (drop (a + c.done) (content v h)) ≡ take k (drop c.off (cell v.unit v.bytes c.place))
-  slice_here k l = rw (← on.sum, place_here) (slice_content v ok h c.rank c.off k rank_in l)
+pub lies : (v : View) (c : Cursor) (n : ℕ) (p : Piece) → Whole v → c.at + n ≤ length (content v c.head) → Some p ≡ piece v c n → Lies v c n p
+lies v c n p ok whole e =
+    let x = c.at + c.done in
+    let r = x / v.unit in
+    let i = x % v.unit in
+    let o = cond_some _ _ _ (sym e) in
+    let more : c.done < n = ltb-true _ _ o.0 in
+    let within : x < length (content v c.head) = omega arith in
+    let sum : r * v.unit + i ≡ x = div-add-mod' x v.unit in
+    let less : i < v.unit = mod_below x v.unit ok.some in
+    rw (← o.1) (record {
+      from = refl;
+      some = omega arith;
+      all = omega arith;
+      inside = omega arith;
+      unit = place_in v ok c.head r i x sum within;
+      slice = slice_in v ok c.head r i x sum within _ (omega arith);
+      wrote = λ ys w. wrote_in v ok c.head r i x sum within ys (omega arith);
+    })
 
-  pub wrote_here : (ys : List ℕ) → c.off + length ys ≤ v.unit → Wrote v (put v c.place c.off ys) h (a + c.done) ys
-  wrote_here ys l = record {
-    unit = refl;
-    path = refl;
-    kept = refl;
-    below = refl;
-    long = length-laid v.bytes ys (c.place * v.unit + c.off) (omega (arith, place_in));
-    chain = rw (← on.sum, place_here) (put-content v ok h c.rank c.off ys rank_in l);
-    other = λ q n. cell_other v.unit v.bytes c.place place_in c.off ys l q (λ e. n (rw (e, place_here) (in_get_d (v.path h) c.rank rank_in)));
-  }
-
-pub on_start : (v : View) (ok : Whole v) (h a : ℕ) → On v h a (record { head = h; at = a; place = h; rank = 0; off = a; done = 0 })
-on_start v ok h a = record { head = refl; start = refl; here = λ l. sym (ok.first h l); sum = omega (arith, zero-mul v.unit) }
+-- where no piece comes next, all is done
+pub piece_none : (v : View) (c : Cursor) (n : ℕ) → None ≡ piece v c n → n ≤ c.done
+piece_none v c n e = ⊎_elim (λ more. absurd (none-some _ (rw (lt-ltb c.done n more) at e))) (λ all. all) (cases_lt c.done n)
 
 -- writes one after another
 pub wrote_none : (v : View) (h a : ℕ) → Wrote v v h a []
@@ -83,21 +108,39 @@ wrote-more v w x h a ys zs l o p = record {
   other = λ q n. (rw (o.unit, o.path) at (p.other q)) n ∙ o.other q n;
 }
 
-pub same_size : (v w : View) (h a : ℕ) (ys : List ℕ) → Wrote v w h a ys → a + length ys ≤ length (content v h) → length (content w h) ≡ length (content v h)
-same_size v w h a ys o l = rw o.chain (length-laid (content v h) ys a l)
+-- one turn of a write of src, of which c.done bytes are written and the piece p is: it is written so far, the chain is as long
+-- as it was, and cursors stand as they did
+pub wrote_turn : {v w : View} (x : View) (h a : ℕ) {n : ℕ} (src : List ℕ) {c : Cursor} {p : Piece} → n ≤ length src → a + length src ≤ length (content v h)
+    → Wrote v w h a (take c.done src) → c.head ≡ h → c.at ≡ a → Lies w c n p → x ≡ put w p.place p.off (take (p.to - p.from) (drop p.from src))
+    → Wrote v x h a (take p.to src) × (a + length src ≤ length (content x h)) × ((d : Cursor) → On w d → On x d)
+wrote_turn {v} {w} x h a src {c} {p} few whole o head at l e =
+    let d = c.done in
+    let m : length (take d src) ≡ d = length-take-le d src (omega (arith, l.from, l.some, l.all)) in
+    let k : length (take (p.to - p.from) (drop p.from src)) ≡ p.to - p.from = simp (length-take, length-drop) (omega (arith, l.all)) in
+    let t : take p.to src ≡ take d src ++ take (p.to - d) (drop d src) =
+    ap (λ i. take i src) (omega (arith, l.from, l.some)) ∙ take-add d (p.to - d) src in
+    let z : Wrote w x h (a + d) (take (p.to - p.from) (drop p.from src)) = rw (e, ← head, ← at) (l.wrote _ k) in
+    let y : Wrote v x h a (take p.to src) =
+    rw t (wrote-more v w x h a _ _ (omega (arith, l.all, l.some, l.from)) o (rw m (rw l.from at z))) in
+    let long : length (take p.to src) ≡ p.to = length-take-le p.to src (omega (arith, l.all)) in (
+      y,
+      rw y.chain (rw (length-laid (content v h) (take p.to src) a (omega (arith, long))) whole),
+      λ b on. rw e (record { here = on.here; before = on.before }),
+    )
 
--- one turn of a write of src, from d bytes to e
-pub wrote_turn : (v w x : View) (h a d e : ℕ) (src : List ℕ) → a + length src ≤ length (content v h) → d ≤ e → e ≤ length src → Wrote v w h a (take d src)
-    → Wrote w x h (a + d) (take (e - d) (drop d src)) → Wrote v x h a (take e src)
-wrote_turn v w x h a d e src l m n o p =
-    let s : length (take d src) ≡ d = length-take-le d src (omega arith) in
-    let t : take e src ≡ take d src ++ take (e - d) (drop d src) = ap (λ i. take i src) (omega arith) ∙ take_add src d (e - d) in
-    rw t (wrote-more v w x h a (take d src) (take (e - d) (drop d src)) (omega arith) o (rw s p))
-
--- a cursor k bytes on in its unit, in the units as written
-pub on_moved : (v w : View) (h a b k : ℕ) (ys : List ℕ) (c : Cursor) → Wrote v w h b ys → On v h a c
-    → On w h a (record { head = c.head; at = c.at; place = c.place; rank = c.rank; off = c.off + k; done = c.done + k })
-on_moved v w h a b k ys c o on = record { head = on.head; start = on.start; here = rw o.path on.here; sum = rw o.unit (omega arith) }
+-- one turn of a read
+pub read_turn : {v : View} (h a : ℕ) {n : ℕ} (out got : List ℕ) {c : Cursor} {p : Piece} → n ≤ length out
+    → take c.done out ≡ take c.done (drop a (content v h)) → c.head ≡ h → c.at ≡ a → Lies v c n p
+    → got ≡ take (length (take (p.to - p.from) (drop p.from out))) (drop p.off (cell v.unit v.bytes p.place))
+    → take p.to (put_mid p.from (p.to - p.from) out got) ≡ take p.to (drop a (content v h))
+read_turn {v} h a out got {c} {p} m r head at l e =
+    let u : length (take (p.to - p.from) (drop p.from out)) ≡ p.to - p.from = simp (length-take, length-drop) (omega (arith, l.all)) in
+    let bs = drop p.off (cell v.unit v.bytes p.place) in
+    let q : got ≡ take (p.to - p.from) bs = e ∙ ap (λ k. take k bs) u in
+    let k : length got ≡ p.to - p.from =
+    ap length q ∙ simp (length-take, length-drop) (omega (arith, l.inside, length-cell v.unit v.bytes p.place l.unit)) in
+    read_more out got (content v h) a p.from p.to (rw l.from r)
+    (q ∙ sym l.slice ∙ (λ i. take (p.to - p.from) (drop (at i + sym l.from i) (content v (head i))))) k (omega (arith, l.some)) (omega (arith, l.all))
 
 -- a chain that shares no place with the one written is as it was
 pub other_content : (v w : View) (h k a : ℕ) (ys : List ℕ) → Wrote v w h a ys → ((q : ℕ) → In q (v.path k) → In q (v.path h) → ⊥) → content w k ≡ content v k

@@ -1,9 +1,10 @@
 -- Linked units as units to copy along, and what their table tells of their chains.
 -- Assumes nothing.
-use Rattle.std.proofs.Common.{◌≡◌, ℕ, zero, suc, ◌+◌, ◌*◌, ◌/◌, ◌<◌, ◌≤◌, ◌≢◌, List, [], ◌∷◌, length, get_or, Some, None, sum_by, count_by, Option, unwrap_or, sym, refl, ap, ◌∙◌, mul-div_cancel, arith}
+use Rattle.std.proofs.Common.{◌≡◌, ℕ, zero, suc, ◌+◌, ◌*◌, ◌/◌, ◌<◌, ◌≤◌, ◌≢◌, List, [], ◌∷◌, length, get_or, Some, None, sum_by, count_by, Option, unwrap_or, sym, refl, ap, ◌∙◌, ⊎_elim, mul-div_cancel, arith}
 use mathlib.Core.Path.{fun_ext}
 use native.Mathlib.Nat.{zero-div}
 use Rattle.std.specs.List.{flat_map}
+use Rattle.std.proofs.lemmas.Option.{none-some}
 use Rattle.links.specs.Links.{FREE, free, at, In, Apart, Path, Head}
 use Rattle.links.specs.Walk.{chain_of, surveyed, reach}
 use Rattle.links.specs.declared.walks.Surveyed.{Surveyed}
@@ -15,7 +16,7 @@ use Rattle.chain.specs.Units.{Whole, cell, content}
 use Rattle.chain.specs.Webs.{Web, Woven, path_of, viewed, stored}
 use Rattle.chain.proofs.Joined.{length_units, length-cell}
 use Rattle.chain.proofs.Releases.{path_head}
-use Rattle.chain.proofs.Strands.{chains_some, chains_none, chain_kept}
+use Rattle.chain.proofs.Strands.{cases_chain, no_head, chains_some, chains_none, chain_kept, some_in}
 
 -- the link at a place of a path is the next place
 pub path_step : (a : ℕ → ℕ) (v : ℕ) (ps : List ℕ) (r : ℕ) → Path a v ps → r + 1 < length ps → a (get_or ps r 0) ≡ get_or ps (r + 1) 0
@@ -25,20 +26,12 @@ path_step a v (p ∷ q ∷ ps) zero h l = ap a h.0 ∙ sym h.2.0
 path_step a v (p ∷ q ∷ ps) (suc r) h l = let e : suc r + 1 ≡ suc (r + 1) = omega arith in path_step a (a v) (q ∷ ps) r h.2 (omega arith) ∙ ap (λ k. get_or (p ∷ q ∷ ps) k 0) (sym e)
 
 module _ (w : Web) (ok : Woven w) where
-  some_in : (p : ℕ) (ps : List ℕ) → In p ps → 0 < length ps
-  some_in p [] i = absurd i
-  some_in p (x ∷ ps) i = omega arith
-
   -- a place on a chain is in use
   pub on_path : (h p : ℕ) → In p (path_of w.links h) → p * w.unit + w.unit ≤ length w.bytes
   on_path h p i = ok.inner p (used (at w.links) h p _ (path_head w ok h (some_in p _ i)).path i).0
 
   pub path_apart : (h : ℕ) → Apart (path_of w.links h)
-  path_apart h = go (chain_of w.links h) refl
-    where
-      go : (o : Option (List ℕ)) → chain_of w.links h ≡ o → Apart (unwrap_or o [])
-      go None e = tt
-      go (Some ps) e = no_repeat _ h ps ((chain_head w.links ok.few h ps).0 e).path
+  path_apart h = ⊎_elim (λ s. rw s.1 (no_repeat _ h s.0 s.2.path)) (λ e. rw e tt) (cases_chain w ok h)
 
   pub woven_whole : 0 < w.unit → Whole (viewed w)
   woven_whole some = record { some = some; first = first; apart = path_apart; inner = on_path }
@@ -59,7 +52,7 @@ module _ (w : Web) (ok : Woven w) where
 
   -- a place that is no head has no chain
   pub none_told : (h : ℕ) → chain_of w.links h ≡ None → (stored w).chain h ≡ None
-  none_told h e = chains_none w ok h (λ ps d. let f = (chain_head w.links ok.few h ps).1 d in let z : ◌≡◌ {A = ℕ} 0 1 = cc in omega arith)
+  none_told h e = chains_none w ok h (no_head w ok h e)
 
   -- and a head has one of so many units
   pub record Chained (h n : ℕ) : Type 0 where
@@ -91,12 +84,8 @@ module _ (w : Web) (ok : Woven w) where
       }
 
 -- what going along a chain tells
-pub survey_none : (o : Option (List ℕ)) (r : ℕ) → None ≡ surveyed o r → o ≡ None
-survey_none None r e = refl
-survey_none (Some ps) r e = absurd (let z : ◌≡◌ {A = ℕ} 0 1 = cc in omega arith)
-
 pub survey_some : (o : Option (List ℕ)) (r : ℕ) (s : Surveyed) → Some s ≡ surveyed o r → (ps : List ℕ) × (o ≡ Some ps) × (s.units ≡ length ps) × (s.place ≡ reach 0 ps r)
-survey_some None r s e = absurd (let z : ◌≡◌ {A = ℕ} 0 1 = cc in omega arith)
+survey_some None r s e = absurd (none-some s (sym e))
 survey_some (Some ps) r s e = let q : s ≡ record { units = length ps; place = reach 0 ps r } = cc in (ps, refl, ap (λ (x : Surveyed). x.units) q, ap (λ (x : Surveyed). x.place) q)
 
 -- linked units with the same chains, and the same bytes in each unit in use, mean the same
@@ -111,8 +100,8 @@ same_stored w v ww wv eu en er el cells = λ i. record { unit = eu i; chain = fu
 pub paths_parted : (w : Web) → Woven w → (hs : List ℕ) → Parted w.links (path_of w.links) hs
 paths_parted w ok hs = record {
   single = λ h i. path_apart w ok h;
-  taken = λ h x i j. (used _ h x _ (path_head w ok h (some_in w ok x _ j)).path j).0;
-  owner = λ h k x i j a b. same_head _ h k x _ _ ok.checked (path_head w ok h (some_in w ok x _ a)) (path_head w ok k (some_in w ok x _ b)) a b;
+  taken = λ h x i j. (used _ h x _ (path_head w ok h (some_in x _ j)).path j).0;
+  owner = λ h k x i j a b. same_head _ h k x _ _ ok.checked (path_head w ok h (some_in x _ a)) (path_head w ok k (some_in x _ b)) a b;
 }
 
 -- so the units of all chains and the FREE links are at most the count
@@ -122,8 +111,6 @@ units_within w ok pos hs apart =
     omega (arith, e, parted_within w.links (path_of w.links) hs (paths_parted w ok hs) apart)
   where
     each : (h : ℕ) → units_of (stored w) h ≡ length (path_of w.links h)
-    each h = go (chain_of w.links h) refl
-      where
-        go : (o : Option (List ℕ)) → chain_of w.links h ≡ o → units_of (stored w) h ≡ length (path_of w.links h)
-        go None e = ap (λ o. length (unwrap_or o []) / w.unit) (none_told w ok h e) ∙ zero-div w.unit ∙ sym (ap (λ o. length (unwrap_or o [])) e)
-        go (Some ps) e = let c = some_told w ok pos h ps e in c.units ∙ sym c.path
+    each h = ⊎_elim
+        (λ s. let c = some_told w ok pos h s.0 s.1 in c.units ∙ sym c.path)
+        (λ e. ap (λ o. length (unwrap_or o []) / w.unit) (none_told w ok h e) ∙ zero-div w.unit ∙ sym (ap (λ o. length (unwrap_or o [])) e)) (cases_chain w ok h)

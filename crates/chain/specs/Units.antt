@@ -1,10 +1,11 @@
 -- Units of one size, and the chains that they make.
 -- Assumes nothing.
-use Rattle.std.specs.Prelude.{◌≡◌, ℕ, ◌+◌, ◌*◌, ◌<◌, ◌≤◌, cond, List, length, take, drop, Some, None, Option, nat_lt, slice_index}
+use Rattle.std.specs.Prelude.{◌≡◌, ℕ, ◌+◌, ◌-◌, ◌*◌, ◌/◌, ◌%◌, ◌<◌, ◌≤◌, min, cond, List, length, take, drop, Some, None, Option, nat_lt, slice_index}
 use Rattle.std.specs.List.{flat_map}
 use Rattle.links.specs.Links.{In, Apart}
 use Rattle.store.specs.Meaning.{Store, laid}
 use Rattle.chain.specs.declared.pieces.Cursor.{Cursor}
+use Rattle.chain.specs.declared.pieces.Piece.{Piece}
 
 -- the size of a unit, the bytes of all units, one after the other, and the places of each head's chain;
 -- and what copying changes nothing of: what else the store holds, and what lies below it
@@ -38,12 +39,34 @@ pub record Whole (v : View) : Type 0 where
 abbrev pub put : View → ℕ → ℕ → List ℕ → View
 put v p i ys = record { unit = v.unit; bytes = laid v.bytes (p * v.unit + i) ys; path = v.path; kept = v.kept; below = v.below }
 
--- a cursor that has come c .done bytes on from a, along the chain of h
-pub record On (v : View) (h a : ℕ) (c : Cursor) : Type 0 where
-  pub head : c.head ≡ h
-  pub start : c.at ≡ a
-  pub here : c.rank < length (v.path h) → c.place ≡ slice_index (v.path h) c.rank
-  pub sum : c.rank * v.unit + c.off ≡ a + c.done
+-- a cursor at the head, with nothing done
+abbrev pub at_start : ℕ → ℕ → Cursor
+at_start h a = record { head = h; at = a; place = h; rank = 0; done = 0 }
+
+-- a cursor is at the unit of its rank, and has not come past its next byte
+pub record On (v : View) (c : Cursor) : Type 0 where
+  pub here : c.rank < length (v.path c.head) → c.place ≡ slice_index (v.path c.head) c.rank
+  pub before : c.rank * v.unit ≤ c.at + c.done
+
+-- the piece of a copy of n bytes that comes next at a cursor: what lies in one unit
+abbrev pub piece : View → Cursor → ℕ → Option Piece
+piece v c n =
+    let x = c.at + c.done in
+    let i = x % v.unit in
+    let to = c.done + min (v.unit - i) (n - c.done) in
+    cond (nat_lt c.done n) (Some (record { place = slice_index (v.path c.head) (x / v.unit); off = i; from = c.done; to = to })) None
+
+-- the bytes that are done behind it
+abbrev pub done_by : Cursor → Option Piece → ℕ
+done_by c None = c.done
+done_by c (Some p) = p.to
+
+-- d is the cursor c moved on, to n bytes done
+pub record Moved (v : View) (c d : Cursor) (n : ℕ) : Type 0 where
+  pub head : d.head ≡ c.head
+  pub at : d.at ≡ c.at
+  pub done : d.done ≡ n
+  pub on : On v d
 
 -- w is v after a write of ys at a, along the chain of h
 pub record Wrote (v w : View) (h a : ℕ) (ys : List ℕ) : Type 0 where

@@ -1,11 +1,11 @@
 -- Units that are linked by a table, and what taking and giving back a unit do to them.
 -- Assumes nothing.
-use Rattle.std.specs.Prelude.{◌≡◌, ℕ, zero, suc, ◌+◌, ◌-◌, ◌*◌, ◌≤◌, cond, ◌≢◌, List, [], ◌∷◌, ◌++◌, length, replicate, nat_lt, slice_set}
+use Rattle.std.specs.Prelude.{◌≡◌, ℕ, zero, suc, ◌+◌, ◌-◌, ◌*◌, ◌≤◌, cond, ◌≢◌, List, [], ◌∷◌, ◌++◌, length, take, replicate, Some, None, nat_lt, slice_set}
 use Rattle.std.specs.Option.{unwrap_or}
 use Rattle.links.specs.Links.{FREE, END, at, Checked, Head}
 use Rattle.links.specs.Chains.{Extended}
 use Rattle.links.specs.Walk.{chain_of}
-use Rattle.store.specs.Meaning.{Store, Notes}
+use Rattle.store.specs.Meaning.{Store, Notes, bytes_of, zeros, with_chain}
 use Rattle.chain.specs.Units.{View, cell, chains_of}
 
 -- the size of a unit, the links, the bytes of all units, the stack of free places, the units that can be taken without more
@@ -30,6 +30,20 @@ viewed w = record { unit = w.unit; bytes = w.bytes; path = path_of w.links; kept
 
 abbrev pub stored : Web → Store
 stored w = record { unit = w.unit; chain = chains_of (viewed w); room = w.room; notes = w.notes }
+
+-- as a store with n units of zeros more behind the chain of h, and with a new chain h of so many
+abbrev pub with_more : Web → ℕ → ℕ → Store
+with_more w h n = with_chain (stored w) h (Some (bytes_of (stored w) h ++ zeros (stored w) n)) (w.room - n)
+
+abbrev pub with_new : Web → ℕ → ℕ → Store
+with_new w h n = with_chain (stored w) h (Some (zeros (stored w) n)) (w.room - n)
+
+-- without the chain of h, which had n units, and with the first k of them alone
+abbrev pub without : Web → ℕ → ℕ → Store
+without w h n = with_chain (stored w) h None (w.room + n)
+
+abbrev pub with_first : Web → ℕ → ℕ → ℕ → Store
+with_first w h k n = with_chain (stored w) h (Some (take (k * w.unit) (bytes_of (stored w) h))) (w.room + (n - k))
 
 -- what always holds: the table is checked, and each unit in use lies within the bytes
 pub record Woven (w : Web) : Type 0 where
@@ -82,6 +96,10 @@ pub record Ended (w v : Web) (e : ℕ) : Type 0 where
 abbrev pub lengthened : (Web → ℕ) → (Web → ℕ → Web) → ℕ → Web → ℕ → Web
 lengthened next put zero w last = w
 lengthened next put (suc n) w last = lengthened next put n (put w last) (next w)
+
+-- n units taken, the first of them the head h of a chain
+abbrev pub begun : (Web → ℕ) → (Web → Web) → (Web → ℕ → Web) → ℕ → Web → ℕ → Web
+begun next took put n w h = lengthened next put (n - 1) (took w) h
 
 -- n units given back, one after the other, from a place on
 abbrev pub released : (Web → ℕ → Web) → ℕ → Web → ℕ → Web

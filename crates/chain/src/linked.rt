@@ -1,21 +1,26 @@
 //! Chains of units that are linked by a table: begin, extend, cut and free, written once for file and mini store.
 
-ghost use Rattle.std.specs.Prelude.{◌≡◌, ℕ, ◌+◌, ◌-◌, ◌*◌, ◌<◌, ◌≤◌, ◌≢◌, List, ◌++◌, length, take, Some, None, slice_index};
-ghost use Rattle.chain.specs.Webs.{Web, Woven, Took, Behind, Gave, Ended, EndsWith, stored, path_of, lengthened, released, shortened};
+ghost use Rattle.std.specs.Prelude.{◌≡◌, ℕ, ◌-◌, ◌<◌, ◌≤◌, ◌≢◌, List, length, None, slice_index};
+ghost use Rattle.chain.specs.Webs.{Web, Woven, Took, Behind, Gave, Ended, EndsWith, stored, path_of, with_more, with_new, without, with_first, lengthened, begun, released, shortened};
 ghost use Rattle.links.specs.Chains.{Taken};
 ghost use Rattle.links.specs.Links.{FREE, END, POINTERS, at};
-ghost use Rattle.store.specs.Meaning.{MAX_HEAD, bytes_of, zeros, with_chain};
+ghost use Rattle.store.specs.Meaning.{MAX_HEAD};
+
+use links::walks::Surveyed;
 
 // Units that a table links. Its calls are made by the functions below alone.
 pub trait Linked {
     ghost web: { Self → Web };
 
     // What the units rest on.
+    // Kept: a clause. As ghost field of a view that borrows host and table, which was tried, it saves none: each function
+    // that is lent the view must then promise that it still holds those borrows (`shape_of-self` stays open).
     ghost sound: { Self → Type 0 };
 
     ghost woven: { (s : Self) → sound s → Woven (web s) };
 
     // What they keep if they have it, and no call needs.
+    // Kept: a clause, which each call hands on: it need not hold, so it can be part of neither `sound` nor a type.
     ghost keeps: { Self → Type 0 };
 
     // Which unit is taken next, and what each call leaves.
@@ -75,6 +80,7 @@ pub trait Linked {
 
 // So many units of zeros more at the end of the chain of a head, behind its last place. Called by `begin`, and by the stores
 // once they have gone along the chain and have so many units ready.
+// Kept: head and last place apart: `begin` calls it, and `cut` calls `release`, for a chain that no survey tells of.
 pub fn lengthen<S: Linked>(s: &mut S, head: u32, last: u32, count: u32)
     requires sound { S.Linked.sound s.old }
     requires ready { count ≤ (S.Linked.web s.old).ready }
@@ -83,7 +89,7 @@ pub fn lengthen<S: Linked>(s: &mut S, head: u32, last: u32, count: u32)
     ensures sound { S.Linked.sound s.new }
     ensures keeps { S.Linked.keeps s.old → S.Linked.keeps s.new }
     ensures left { S.Linked.web s.new ≡ lengthened S.Linked.next S.Linked.put count (S.Linked.web s.old) last }
-    ensures means { stored (S.Linked.web s.new) ≡ with_chain (stored (S.Linked.web s.old)) head (Some (bytes_of (stored (S.Linked.web s.old)) head ++ zeros (stored (S.Linked.web s.old)) count)) ((S.Linked.web s.old).room - count) }
+    ensures means { stored (S.Linked.web s.new) ≡ with_more (S.Linked.web s.old) head count }
 {
     let mut end = last;
     for _ in 0..count {
@@ -100,9 +106,9 @@ pub fn begin<S: Linked>(s: &mut S, count: u32) -> u32
     ensures sound { S.Linked.sound s.new }
     ensures keeps { S.Linked.keeps s.old → S.Linked.keeps s.new }
     ensures told { result ≡ S.Linked.next (S.Linked.web s.old) }
-    ensures left { S.Linked.web s.new ≡ lengthened S.Linked.next S.Linked.put (count - 1) (S.Linked.took (S.Linked.web s.old)) result }
+    ensures left { S.Linked.web s.new ≡ begun S.Linked.next S.Linked.took S.Linked.put count (S.Linked.web s.old) result }
     ensures new { ((stored (S.Linked.web s.old)).chain result ≡ None) × (result ≤ MAX_HEAD) }
-    ensures means { stored (S.Linked.web s.new) ≡ with_chain (stored (S.Linked.web s.old)) result (Some (zeros (stored (S.Linked.web s.old)) count)) ((S.Linked.web s.old).room - count) }
+    ensures means { stored (S.Linked.web s.new) ≡ with_new (S.Linked.web s.old) result count }
 {
     let head = s.take();
     lengthen(s, head, head, count - 1);
@@ -117,7 +123,7 @@ pub fn release<S: Linked>(s: &mut S, head: u32, units: u32)
     ensures sound { S.Linked.sound s.new }
     ensures keeps { S.Linked.keeps s.old → S.Linked.keeps s.new }
     ensures left { S.Linked.web s.new ≡ released S.Linked.gave units (S.Linked.web s.old) head }
-    ensures means { stored (S.Linked.web s.new) ≡ with_chain (stored (S.Linked.web s.old)) head None ((S.Linked.web s.old).room + units) }
+    ensures means { stored (S.Linked.web s.new) ≡ without (S.Linked.web s.old) head units }
 {
     let mut place = head;
     for _ in 0..units {
@@ -125,22 +131,22 @@ pub fn release<S: Linked>(s: &mut S, head: u32, units: u32)
     }
 }
 
-// The chain of a head keeps its first `keep` units, of which `place` is the last; the others become free. Called by the
-// stores once they have gone along it.
-pub fn cut<S: Linked>(s: &mut S, head: u32, place: u32, keep: u32, units: u32)
+// The chain of a head, surveyed at the last place that stays, keeps its first `keep` units; the others become free. Called
+// by the stores once they have gone along it.
+pub fn cut<S: Linked>(s: &mut S, head: u32, found: Surveyed, keep: u32)
     requires sound { S.Linked.sound s.old }
     requires some { 0 < keep }
-    requires fewer { keep ≤ units }
-    requires units { units ≡ length (path_of (S.Linked.web s.old).links head) }
-    requires place { place ≡ slice_index (path_of (S.Linked.web s.old).links head) (keep - 1) }
+    requires fewer { keep ≤ found.units }
+    requires units { found.units ≡ length (path_of (S.Linked.web s.old).links head) }
+    requires place { found.place ≡ slice_index (path_of (S.Linked.web s.old).links head) (keep - 1) }
     ensures sound { S.Linked.sound s.new }
     ensures keeps { S.Linked.keeps s.old → S.Linked.keeps s.new }
-    ensures left { S.Linked.web s.new ≡ shortened S.Linked.ended S.Linked.gave keep units (S.Linked.web s.old) place }
-    ensures means { stored (S.Linked.web s.new) ≡ with_chain (stored (S.Linked.web s.old)) head (Some (take (keep * (S.Linked.web s.old).unit) (bytes_of (stored (S.Linked.web s.old)) head))) ((S.Linked.web s.old).room + (units - keep)) }
+    ensures left { S.Linked.web s.new ≡ shortened S.Linked.ended S.Linked.gave keep found.units (S.Linked.web s.old) found.place }
+    ensures means { stored (S.Linked.web s.new) ≡ with_first (S.Linked.web s.old) head keep found.units }
 {
-    if keep == units {
+    if keep >= found.units {
         return;
     }
-    let next = s.cut_off(place);
-    release(s, next, units - keep);
+    let next = s.cut_off(found.place);
+    release(s, next, found.units - keep);
 }

@@ -1,14 +1,16 @@
 //! Copying at an offset of a chain, split into pieces that lie in one unit. Drawer, file and mini store read and write
 //! their chains by this text and by no other.
 
-ghost use Rattle.std.specs.Prelude.{◌≡◌, ℕ, ◌+◌, ◌-◌, ◌*◌, ◌^◌, ◌<◌, ◌≤◌, length, take, drop, slice_index, slice_range};
-ghost use Rattle.chain.specs.Units.{View, Whole, cell, content, put, On, Wrote};
+ghost use Rattle.std.specs.Prelude.{◌≡◌, ℕ, ◌+◌, ◌*◌, ◌^◌, ◌<◌, ◌≤◌, length, take, drop, slice_index};
+ghost use Rattle.chain.specs.Units.{View, Whole, cell, content, put, at_start, On, piece, done_by, Moved, Wrote};
 
 // Units of one size, each on a chain or on none. Its calls are made by the functions below alone.
 pub trait Units {
     ghost view: { Self → View };
 
     // What the units rest on.
+    // Kept: a clause. A view that borrows host and table, with this as ghost field, was tried: a generic function that is
+    // lent it must then promise that it still holds those borrows (`shape_of-self` stays open), so a clause stands there.
     ghost sound: { Self → Type 0 };
 
     ghost whole: { (s : Self) → sound s → Whole (view s) };
@@ -44,66 +46,68 @@ pub trait Units {
         ensures sound { sound self.new };
 }
 
-// How far a copy along a chain has come: the unit that it is at, the offset in it, and the bytes done.
-#[derive(Clone, Copy)]
-pub struct Cursor {
+// The part of a copy that lies in one unit: the unit and the offset in it, and which bytes of the buffer it is.
+#[derive(Drop)]
+struct Piece {
+    place: u32,
+    off: usize,
+    from: usize,
+    to: usize,
+}
+
+// How far a copy along a chain has come: from which offset on, the unit that it is at, and the bytes done.
+#[derive(Drop)]
+struct Cursor {
     head: u32,
     at: usize,
     place: u32,
     rank: usize,
-    off: usize,
     done: usize,
 }
 
-// On to the next unit of the chain.
-fn forward<S: Units>(s: &mut S, c: Cursor) -> Cursor
-    requires sound { S.Units.sound s.old }
-    requires on { On (S.Units.view s.old) c.head c.at c }
-    requires past { (S.Units.view s.old).unit ≤ c.off }
-    requires more { c.at + c.done < length (content (S.Units.view s.old) c.head) }
-    requires fits { c.at + c.done < 2 ^ 32 }
-    ensures sound { S.Units.sound s.new }
-    ensures same { S.Units.view s.new ≡ S.Units.view s.old }
-    ensures on { On (S.Units.view s.old) c.head c.at result }
-    ensures less { result.off < c.off }
-    ensures done { result.done ≡ c.done }
-{
-    let unit = s.unit_len();
-    let place = s.next(c.head, c.place, c.rank);
-    Cursor {
-        place,
-        rank: c.rank + 1,
-        off: c.off - unit,
-        ..c
+impl Cursor {
+    // At the head, with nothing done.
+    fn new(head: u32, at: usize) -> Cursor
+        ensures { result ≡ at_start head at }
+    {
+        Cursor {
+            head,
+            at,
+            place: head,
+            rank: 0,
+            done: 0,
+        }
     }
-}
 
-// One piece, or a step to the next unit.
-fn read_step<S: Units>(s: &mut S, c: Cursor, out: &mut [u8]) -> Cursor
-    requires sound { S.Units.sound s.old }
-    requires on { On (S.Units.view s.old) c.head c.at c }
-    requires more { c.done < length out.old }
-    requires whole { c.at + length out.old ≤ length (content (S.Units.view s.old) c.head) }
-    requires fits { c.at + length out.old < 2 ^ 32 }
-    requires read { take c.done out.old ≡ take c.done (drop c.at (content (S.Units.view s.old) c.head)) }
-    ensures sound { S.Units.sound s.new }
-    ensures same { S.Units.view s.new ≡ S.Units.view s.old }
-    ensures on { On (S.Units.view s.old) c.head c.at result }
-    ensures less { 2 * (length out.old - result.done) + result.off < 2 * (length out.old - c.done) + c.off }
-    ensures done { result.done ≤ length out.old }
-    ensures read { take result.done out.new ≡ take result.done (drop c.at (content (S.Units.view s.old) c.head)) }
-{
-    let unit = s.unit_len();
-    if c.off >= unit {
-        return forward(s, c);
-    }
-    let k = (unit - c.off).min(out.len() - c.done);
-    let done = c.done;
-    s.read_unit(c.place, c.off, &mut out[done..done + k]);
-    Cursor {
-        off: c.off + k,
-        done: done + k,
-        ..c
+    // On to the unit where the next byte lies: the piece there of a copy of so many bytes, or nothing where all are done.
+    fn next_piece<S: Units>(&mut self, s: &mut S, total: usize) -> Option<Piece>
+        requires sound { S.Units.sound s.old }
+        requires on { On (S.Units.view s.old) self.old }
+        requires whole { self.old.at + total ≤ length (content (S.Units.view s.old) self.old.head) }
+        requires fits { self.old.at + total < 2 ^ 32 }
+        ensures sound { S.Units.sound s.new }
+        ensures same { S.Units.view s.new ≡ S.Units.view s.old }
+        ensures told { result ≡ piece (S.Units.view s.old) self.old total }
+        ensures moved { Moved (S.Units.view s.old) self.old self.new (done_by self.old result) }
+    {
+        if self.done >= total {
+            return None;
+        }
+        let unit = s.unit_len();
+        let next = self.at + self.done;
+        for rank in self.rank..next / unit {
+            self.place = s.next(self.head, self.place, rank);
+        }
+        self.rank = next / unit;
+        let off = next % unit;
+        let from = self.done;
+        self.done += (unit - off).min(total - from);
+        Some(Piece {
+            place: self.place,
+            off,
+            from,
+            to: self.done,
+        })
     }
 }
 
@@ -117,43 +121,9 @@ pub fn read_chain<S: Units>(s: &mut S, head: u32, at: usize, out: &mut [u8])
     ensures same { S.Units.view s.new ≡ S.Units.view s.old }
     ensures read { out.new ≡ take (length out.old) (drop at (content (S.Units.view s.old) head)) }
 {
-    let mut c = Cursor {
-        head,
-        at,
-        place: head,
-        rank: 0,
-        off: at,
-        done: 0,
-    };
-    while c.done < out.len() {
-        c = read_step(s, c, out);
-    }
-}
-
-// One piece, or a step to the next unit.
-fn write_step<S: Units>(s: &mut S, c: Cursor, src: &[u8]) -> Cursor
-    requires sound { S.Units.sound s.old }
-    requires on { On (S.Units.view s.old) c.head c.at c }
-    requires more { c.done < length src.now }
-    requires whole { c.at + length src.now ≤ length (content (S.Units.view s.old) c.head) }
-    requires fits { c.at + length src.now < 2 ^ 32 }
-    ensures sound { S.Units.sound s.new }
-    ensures on { On (S.Units.view s.new) c.head c.at result }
-    ensures less { 2 * (length src.now - result.done) + result.off < 2 * (length src.now - c.done) + c.off }
-    ensures done { (c.done ≤ result.done) × (result.done ≤ length src.now) }
-    ensures wrote { Wrote (S.Units.view s.old) (S.Units.view s.new) c.head (c.at + c.done) (slice_range src.now c.done result.done) }
-{
-    let unit = s.unit_len();
-    if c.off >= unit {
-        return forward(s, c);
-    }
-    let k = (unit - c.off).min(src.len() - c.done);
-    let done = c.done;
-    s.write_unit(c.place, c.off, &src[done..done + k]);
-    Cursor {
-        off: c.off + k,
-        done: done + k,
-        ..c
+    let mut c = Cursor::new(head, at);
+    while let Some(p) = c.next_piece(s, out.len()) {
+        s.read_unit(p.place, p.off, &mut out[p.from..p.to]);
     }
 }
 
@@ -166,15 +136,8 @@ pub fn write_chain<S: Units>(s: &mut S, head: u32, at: usize, src: &[u8])
     ensures sound { S.Units.sound s.new }
     ensures wrote { Wrote (S.Units.view s.old) (S.Units.view s.new) head at src.now }
 {
-    let mut c = Cursor {
-        head,
-        at,
-        place: head,
-        rank: 0,
-        off: at,
-        done: 0,
-    };
-    while c.done < src.len() {
-        c = write_step(s, c, src);
+    let mut c = Cursor::new(head, at);
+    while let Some(p) = c.next_piece(s, src.len()) {
+        s.write_unit(p.place, p.off, &src[p.from..p.to]);
     }
 }

@@ -7,13 +7,15 @@ use Rattle.chain.proofs.linked.begin.Goals as goal
 
 pub returns : goal.returns
 returns g c =
-    let woven = g.S.Linked.woven in
-    let took = c.take-head.ensures in
+    let S = g.S.Linked in
+    let ww = S.woven _ c.requires.sound in
+    let t = c.take-head.ensures in
+    let n = c.lengthen.ensures in
     record {
-      sound = c.lengthen.ensures.sound;
-      keeps = λ k. c.lengthen.ensures.keeps (took.keeps k);
-      told = took.told;
-      left = c.lengthen.ensures.left ∙ ap (λ w. lengthened g.S.Linked.next g.S.Linked.put (c.args.count - 1) w c.take-head.result) took.left;
-      new = (free-none _ (woven _ c.requires.sound) _ took.took.free, omega (arith, took.taken.new.place));
-      means = begun (g.S.Linked.web c.args.s.now) (g.S.Linked.web c.take-head.new.self) (g.S.Linked.web c.lengthen.new.s) (woven _ c.requires.sound) (woven _ took.sound) _ _ c.requires.some took.took took.taken c.lengthen.ensures.means;
+      sound = n.sound;
+      keeps = λ k. n.keeps (t.keeps k);
+      told = t.told;
+      left = n.left ∙ ap (λ w. lengthened S.next S.put (c.args.count - 1) w c.take-head.result) t.left;
+      new = (free-none _ ww _ t.took.free, omega (arith, t.taken.new.place));
+      means = begun (S.web c.lengthen.new.s) ww (S.woven _ t.sound) c.requires.some t.took t.taken n.means;
     }

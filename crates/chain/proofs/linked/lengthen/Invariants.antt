@@ -5,5 +5,9 @@ use Rattle.chain.proofs.linked.lengthen.Given as goal
 
 abbrev pub invariant-loop : goal.invariant-loop
 invariant-loop g l =
-    let web = g.S.Linked.web in
-    g.S.Linked.sound l.s × (g.S.Linked.keeps l.initial.s → g.S.Linked.keeps l.s) × Growing g.S.Linked.next g.S.Linked.put (web l.initial.s) l.head l.last l.count l.counter (web l.s) l.end
+    let S = g.S.Linked in
+    record {
+      sound : S.sound l.s;
+      keeps : S.keeps l.initial.s → S.keeps l.s;
+      growing : Growing S.next S.put (S.web l.initial.s) l.head l.last l.count l.counter (S.web l.s) l.end;
+    }

@@ -6,5 +6,10 @@ use Rattle.chain.proofs.linked.release.Given as goal
 
 abbrev pub invariant-loop : goal.invariant-loop
 invariant-loop g l =
-    let web = g.S.Linked.web in
-    g.S.Linked.sound l.s × (g.S.Linked.keeps l.initial.s → g.S.Linked.keeps l.s) × Releasing g.S.Linked.gave (web l.initial.s) l.head (path_of (web l.initial.s).links l.head) l.units l.counter (web l.s) l.place
+    let S = g.S.Linked in
+    let w = S.web l.initial.s in
+    record {
+      sound : S.sound l.s;
+      keeps : S.keeps l.initial.s → S.keeps l.s;
+      releasing : Releasing S.gave w l.head (path_of w.links l.head) l.units l.counter (S.web l.s) l.place;
+    }

@@ -1,27 +1,43 @@
 -- Assumes nothing.
-use Rattle.std.proofs.Common.{◌≡◌, length, take, arith, rules}
-use Rattle.chain.proofs.Views.{on_start, same_size, wrote_none, wrote_turn}
+use Rattle.std.proofs.Common.{◌≤◌, length, ◌∙◌, arith, rules}
+use Rattle.std.proofs.lemmas.List.{take_all}
+use Rattle.chain.proofs.Views.{lies, piece_none, wrote_none, wrote_turn}
 use Rattle.chain.proofs.pieces.write_chain.Goals as goal
-use Rattle.std.proofs.lemmas.List.{length-take-le, take_all}
 
-pub loop-c-init : goal.loop-c-init
-loop-c-init g c = (on_start _ (g.S.Units.whole c.args.s.now c.requires.sound) _ _, omega arith, wrote_none _ _ _, c.requires.sound)
+pub loop-p-init : goal.loop-p-init
+loop-p-init g c = record {
+  sound = c.requires.sound;
+  head = search rules;
+  at = search rules;
+  on = search rules;
+  whole = c.requires.whole;
+  wrote = rw c.new-c.ensures (wrote_none _ _ _);
+}
 
-pub write_step-c-requires : goal.write_step-c-requires
-write_step-c-requires g c =
-    let o = c.loop-c.invariant.2 in
-    let on = c.loop-c.invariant.0 in
-    let n : length (take c.loop-c.c.done c.args.src.now) ≡ c.loop-c.c.done = length-take-le _ _ (omega arith) in
-    let s = same_size _ _ _ _ _ o (omega (arith, c.requires.whole)) in
-    record { sound = c.loop-c.invariant.3; on = search rules; more = omega arith; whole = rw on.head (omega arith); fits = omega arith }
+pub write_unit-requires-clause-unit : goal.write_unit-requires-clause-unit
+write_unit-requires-clause-unit g c =
+    let i = c.loop-p.invariant in
+    let l = lies _ c.loop-p.c _ c.in-Some.p (g.S.Units.whole _ i.sound) (rw i.head (omega arith)) c.in-Some.ensures.told in
+    rw c.next_piece.ensures.same l.unit
 
-pub loop-c-preserved : goal.loop-c-preserved
-loop-c-preserved g c =
-    let on = c.loop-c.invariant.0 in
-    let e = rw (on.head, on.start) at c.write_step-c.ensures in
-    (e.on, omega arith, wrote_turn _ _ _ _ _ _ _ c.args.src.now c.requires.whole (omega arith) (omega arith) c.loop-c.invariant.2 e.wrote, c.write_step-c.ensures.sound)
+pub loop-p-preserved : goal.loop-p-preserved
+loop-p-preserved g c =
+    let i = c.loop-p.invariant in
+    let m = c.in-Some.ensures.moved in
+    let l = lies _ c.loop-p.c _ c.in-Some.p (g.S.Units.whole _ i.sound) (rw i.head (omega arith)) c.in-Some.ensures.told in
+    let e = rw c.next_piece.ensures.same at c.write_unit.ensures.put in
+    let t = wrote_turn _ c.args.head c.args.at c.args.src.now (omega arith) c.requires.whole i.wrote i.head i.at l e in
+    record {
+      sound = c.write_unit.ensures.sound;
+      head = m.head ∙ i.head;
+      at = m.at ∙ i.at;
+      on = t.2 _ m.on;
+      whole = t.1;
+      wrote = rw m.done t.0;
+    }
 
-pub returns : goal.returns
-returns g c =
-    let e : take c.loop-c.c.done c.args.src.now ≡ c.args.src.now = take_all _ _ (omega arith) in
-    record { sound = c.loop-c.invariant.3; wrote = rw e at c.loop-c.invariant.2 }
+pub returns-clause-wrote : goal.returns-clause-wrote
+returns-clause-wrote g c =
+    let i = c.loop-p.invariant in
+    let n : length c.args.src.now ≤ c.loop-p.c.done = omega (arith, piece_none (g.S.Units.view c.loop-p.s) c.loop-p.c _ c.in_default.ensures.told) in
+    rw (c.in_default.ensures.same, ← take_all _ _ n) i.wrote
