@@ -1,204 +1,159 @@
 -- What joining a unit to a chain, and taking a chain's last unit off, do to the chains.
 -- Assumes nothing.
-use Rattle.std.proofs.Common.{◌≡◌, ℕ, ◌+◌, ◌-◌, ◌<◌, ◌≤◌, ◌≢◌, ◌⊎◌, List, [], ◌∷◌, ◌++◌, length, get_or, set, sym, refl, ap, ◌∙◌, inl, inr, ⊎_elim, arith}
+use Rattle.std.proofs.Common.{◌≡◌, ℕ, ◌+◌, ◌<◌, true, ◌≢◌, List, [], ◌∷◌, ◌++◌, length, get_or, set, is_some, Some, None, Option, sym, refl, ap, ◌∙◌, ⊎_elim, arith}
+use Rattle.std.proofs.lemmas.Option.{none-some}
 use Rattle.std.proofs.lemmas.List.{get_or-set_same, get_or-set_other, length-set, length_push, get_or_push, get_or_append_left}
-use Rattle.std.proofs.lemmas.Bool.{cases_eq, cases_lt, le-ltb, cond-false}
-use Rattle.links.specs.Links.{FREE, at}
-use Rattle.links.proofs.Counts.{inside}
-use Rattle.cells.specs.Noted.{unit_at, path, Unique, Down, Named}
-use Rattle.cells.proofs.Seeks.{unit_found, unit_below}
-use Rattle.cells.proofs.Paths.{Sound, IsPath, same_path, path_is}
+use Rattle.std.proofs.lemmas.Bool.{cases_eq, cases_lt}
+use Rattle.cells.specs.declared.Note.{Note}
+use Rattle.cells.specs.Noted.{note_at, unit_at, path, Unique, Down, Named}
+use Rattle.cells.proofs.Seeks.{note, inside, unit_found, unit_there}
+use Rattle.cells.proofs.Paths.{Sound, IsPath, one_note, path_is, path_only}
 
-pub path_past : (H R : List ℕ) (h : ℕ) → length H ≤ h → path H R h ≡ []
-unfolding path
-path_past H R h l = cond-false _ _ _ (le-ltb h (length H) l)
+-- a unit that notes the rank r, where one notes the next
+before : (N : List (Option Note)) (u h r : ℕ) → Down N → note_at N u ≡ Some (note h (r + 1)) → (v : ℕ) × (note_at N v ≡ Some (note h r))
+before N u h r d e = go (unit_at N h r) refl (d u h r e)
+  where
+    go : (o : Option ℕ) → unit_at N h r ≡ o → is_some o ≡ true → (v : ℕ) × (note_at N v ≡ Some (note h r))
+    go None f t = absurd (let z : ◌≡◌ {A = ℕ} 0 1 = cc in omega arith)
+    go (Some v) f t = (v, unit_found N h r v f)
 
--- a head's path, in units that are sound
-module _ (H R : List ℕ) (s : Sound H R) (h : ℕ) (below : h < 64) where
-  pub is : IsPath H R h (path H R h)
-  is = path_is H R h (omega (arith, s.heads)) s.heads
+found : (N : List (Option Note)) (h r u : ℕ) → note_at N u ≡ Some (note h r) → is_some (unit_at N h r) ≡ true
+found N h r u e = let v = unit_there N h r u e in ap is_some v.1
 
-  pub is_only : (ps : List ℕ) → IsPath H R h ps → path H R h ≡ ps
-  is_only ps p = same_path H R h (path H R h) ps s.unique (omega arith) is p
-
--- the rank behind a path has no unit, and so has none a rank past it
-past_done : (H R : List ℕ) (h : ℕ) (ps : List ℕ) → Down H R → h ≢ FREE → IsPath H R h ps → (u : ℕ) → at H u ≡ h → get_or R u 0 ≡ length ps + 1 → ⊥
-past_done H R h ps d n p u e f =
-    let v = unit_at H R (at H u) (get_or R u 0 - 1) in
-    let g = unit_found H R (at H u) (get_or R u 0 - 1) (d u ((λ t. n (sym e ∙ t)), omega arith)) in
-    p.done v (g.0 ∙ e) (g.1 ∙ omega arith)
-
-module _ (H R : List ℕ) (s : Sound H R) (h u : ℕ) (below : h < 64) (free : at H u ≡ FREE) (inner : u < 64)
-    (names : length (path H R h) ≡ 0 → u ≡ h) where
+-- a free unit u is joined to the chain of h
+module _ (N : List (Option Note)) (s : Sound N) (h u : ℕ) (inner : u < length N) (vacant : note_at N u ≡ None)
+    (names : length (path N h) ≡ 0 → u ≡ h) where
   n : ℕ
-  n = length (path H R h)
+  n = length (path N h)
 
-  H' : List ℕ
-  H' = set H u h
+  J : List (Option Note)
+  J = set N u (Some (note h n))
 
-  R' : List ℕ
-  R' = set R u n
+  here : note_at J u ≡ Some (note h n)
+  unfolding J
+  here = get_or-set_same N u (Some (note h n)) None inner
 
-  p : IsPath H R h (path H R h)
-  p = is H R s h below
-
-  head_new : at H' u ≡ h
-  unfolding H'
-  head_new = get_or-set_same H u h FREE (omega (arith, s.heads))
-
-  head_old : (x : ℕ) → x ≢ u → at H' x ≡ at H x
-  unfolding H'
-  head_old x k = get_or-set_other H u x h FREE k
-
-  rank_new : get_or R' u 0 ≡ n
-  unfolding R'
-  rank_new = get_or-set_same R u n 0 (omega (arith, s.ranks))
-
-  rank_old : (x : ℕ) → x ≢ u → get_or R' x 0 ≡ get_or R x 0
-  unfolding R'
-  rank_old x k = get_or-set_other R u x n 0 k
+  else : (x : ℕ) → x ≢ u → note_at J x ≡ note_at N x
+  unfolding J
+  else x k = get_or-set_other N u x (Some (note h n)) None k
 
   -- a unit on a chain is not the one that is joined
-  other : (x : ℕ) → at H x ≢ FREE → x ≢ u
-  other x k e = k (ap (at H) e ∙ free)
+  other : (x : ℕ) (o : Note) → note_at N x ≡ Some o → x ≢ u
+  other x o e k = none-some o (sym vacant ∙ ap (note_at N) (sym k) ∙ e)
 
-  no_top : (x : ℕ) → at H x ≡ h → get_or R x 0 ≡ n → ⊥
+  stays : (x : ℕ) (o : Note) → note_at N x ≡ Some o → note_at J x ≡ Some o
+  stays x o e = else x (other x o e) ∙ e
+
+  -- the rank behind the path is noted by the new unit alone
+  top_only : (x k r : ℕ) → k ≡ h → r ≡ n → note_at J x ≡ Some (note k r) → x ≡ u
   unfolding n
-  no_top x e f = p.done x e f
+  top_only x k r a b e = ⊎_elim (λ i. i) (λ i. absurd ((path_is N h).done x (sym (else x i) ∙ rw (a, b) at e))) (cases_eq x u)
 
-  unique' : Unique H' R'
-  unique' x y (k, e, f) = go (cases_eq x u) (cases_eq y u)
-    where
-      go : (x ≡ u) ⊎ (x ≡ u → ⊥) → (y ≡ u) ⊎ (y ≡ u → ⊥) → x ≡ y
-      go (inl a) (inl b) = a ∙ sym b
-      go (inl a) (inr b) = absurd (no_top y (sym (head_old y b) ∙ sym e ∙ ap (at H') a ∙ head_new) (sym (rank_old y b) ∙ sym f ∙ ap (λ v. get_or R' v 0) a ∙ rank_new))
-      go (inr a) (inl b) = absurd (no_top x (sym (head_old x a) ∙ e ∙ ap (at H') b ∙ head_new) (sym (rank_old x a) ∙ f ∙ ap (λ v. get_or R' v 0) b ∙ rank_new))
-      go (inr a) (inr b) = s.unique x y ((λ t. k (head_old x a ∙ t)), sym (head_old x a) ∙ e ∙ head_old y b, sym (rank_old x a) ∙ f ∙ rank_old y b)
+  unique' : Unique J
+  unique' x y o e f = ⊎_elim
+      (λ (a : x ≡ u). let t = one_note J x u o.head h o.rank n a e here in a ∙ sym (top_only y o.head o.rank t.0 t.1 f))
+      (λ a. ⊎_elim
+      (λ (b : y ≡ u). let t = one_note J y u o.head h o.rank n b f here in top_only x o.head o.rank t.0 t.1 e ∙ sym b)
+      (λ b. s.unique x y o (sym (else x a) ∙ e) (sym (else y b) ∙ f)) (cases_eq y u)) (cases_eq x u)
 
-  named' : Named H' R'
+  down' : Down J
   unfolding n
-  named' x (k, e) = ⊎_elim
-      (λ (a : x ≡ u). ap (at H') a ∙ head_new ∙ sym (names (sym rank_new ∙ ap (λ v. get_or R' v 0) (sym a) ∙ e)) ∙ sym a)
-      (λ a. head_old x a ∙ s.named x ((λ t. k (head_old x a ∙ t)), sym (rank_old x a) ∙ e)) (cases_eq x u)
+  down' x k r e = ⊎_elim
+      (λ (a : x ≡ u). let t = one_note J x u k h (r + 1) n a e here in
+      let b : r < n = omega (arith, t.1) in
+      found J k r (get_or (path N h) r 0) (stays _ (note k r) ((path_is N h).ranked r b ∙ ap (λ q. Some (note q r)) (sym t.0))))
+      (λ a. let t = before N x k r s.down (sym (else x a) ∙ e) in found J k r t.0 (stays t.0 (note k r) t.1)) (cases_eq x u)
 
-  -- a unit that was found before is found still
-  kept_below : (v k r : ℕ) → k ≢ FREE → at H v ≡ k → get_or R v 0 ≡ r → unit_at H' R' k r < length H'
-  kept_below v k r m e f =
-      let o = other v (λ t. m (sym e ∙ t)) in
-      unit_below H' R' k r v m (head_old v o ∙ e) (rank_old v o ∙ f)
-
-  down' : Down H' R'
+  named' : Named J
   unfolding n
-  down' x (k, l) = ⊎_elim
-      (λ (a : x ≡ u). let e : at H' x ≡ h = ap (at H') a ∙ head_new in
-      let f : get_or R' x 0 ≡ n = ap (λ v. get_or R' v 0) a ∙ rank_new in
-      let t = p.noted (n - 1) (omega arith) in
-      rw (e, f) (kept_below (get_or (path H R h) (n - 1) 0) h (n - 1) (omega arith) t.0 t.1))
-      (λ a. let e = head_old x a in let f = rank_old x a in
-      let m : at H x ≢ FREE = λ t. k (e ∙ t) in
-      let t = unit_found H R (at H x) (get_or R x 0 - 1) (s.down x (m, omega arith)) in
-      rw (e, f) (kept_below (unit_at H R (at H x) (get_or R x 0 - 1)) (at H x) (get_or R x 0 - 1) m t.0 t.1)) (cases_eq x u)
+  named' x k e = ⊎_elim
+      (λ (a : x ≡ u). let t = one_note J x u k h 0 n a e here in t.0 ∙ sym (names (sym t.1)) ∙ sym a)
+      (λ a. s.named x k (sym (else x a) ∙ e)) (cases_eq x u)
 
-  pub join_sound : Sound (set H u h) (set R u (length (path H R h)))
-  unfolding H' R' n
-  join_sound = record { heads = length-set H u h ∙ s.heads; ranks = length-set R u n ∙ s.ranks; unique = unique'; down = down'; named = named' }
+  pub join_sound : Sound (set N u (Some (note h (length (path N h)))))
+  unfolding J n
+  join_sound = record { counted = length-set N u (Some (note h n)) ∙ s.counted; unique = unique'; down = down'; named = named' }
 
-  joined_is : IsPath H' R' h (path H R h ++ u ∷ [])
+  joined_is : IsPath J h (path N h ++ u ∷ [])
   unfolding n
   joined_is = record {
-    noted = λ r l. ⊎_elim
-        (λ j. let t = p.noted r j in let o = other (get_or (path H R h) r 0) (λ e. omega (arith, t.0)) in
-        rw (get_or_append_left (path H R h) (u ∷ []) 0 r j) (head_old _ o ∙ t.0, rank_old _ o ∙ t.1))
-        (λ j. let e : length (path H R h) ≡ r = omega (arith, length_push (path H R h) u) in
-        rw (get_or_push (path H R h) u 0 r e) (head_new, rank_new ∙ e)) (cases_lt r (length (path H R h)));
-    done = λ x e f. ⊎_elim
-        (λ (a : x ≡ u). omega (arith, ap (λ v. get_or R' v 0) a, rank_new, length_push (path H R h) u))
-        (λ a. past_done H R h (path H R h) s.down (omega arith) p x (sym (head_old x a) ∙ e) (sym (rank_old x a) ∙ f ∙ length_push (path H R h) u)) (cases_eq x u);
+    ranked = λ r l. ⊎_elim
+        (λ j. rw (get_or_append_left (path N h) (u ∷ []) 0 r j) (stays _ (note h r) ((path_is N h).ranked r j)))
+        (λ j. let e : length (path N h) ≡ r = omega (arith, length_push (path N h) u) in
+        rw (get_or_push (path N h) u 0 r e) (here ∙ ap (λ q. Some (note h q)) e)) (cases_lt r (length (path N h)));
+    done = λ x e. let t = before J x h n down' (e ∙ ap (λ q. Some (note h q)) (length_push (path N h) u)) in
+        ⊎_elim
+        (λ (a : x ≡ u). omega (arith, (one_note J x u h h _ n a e here).1, length_push (path N h) u))
+        (λ a. let b = before N x h n s.down (sym (else x a) ∙ e ∙ ap (λ q. Some (note h q)) (length_push (path N h) u)) in (path_is N h).done b.0 b.1) (cases_eq x u);
   }
 
-  others_are : (k : ℕ) → k < 64 → k ≢ h → IsPath H' R' k (path H R k)
-  others_are k l d = let q = is H R s k l in record {
-    noted = λ r i. let t = q.noted r i in let o = other (get_or (path H R k) r 0) (λ e. omega (arith, t.0)) in (head_old _ o ∙ t.0, rank_old _ o ∙ t.1);
-    done = λ x e f. ⊎_elim (λ (a : x ≡ u). d (sym e ∙ ap (at H') a ∙ head_new)) (λ a. q.done x (sym (head_old x a) ∙ e) (sym (rank_old x a) ∙ f)) (cases_eq x u);
-  }
+  pub join_path : path (set N u (Some (note h (length (path N h))))) h ≡ path N h ++ u ∷ []
+  unfolding J n
+  join_path = path_only J h (path N h ++ u ∷ []) unique' joined_is
 
-  pub join_path : path (set H u h) (set R u (length (path H R h))) h ≡ path H R h ++ u ∷ []
-  unfolding H' R' n
-  join_path = is_only H' R' join_sound h below (path H R h ++ u ∷ []) joined_is
-
-  pub join_others : (k : ℕ) → k ≢ h → path (set H u h) (set R u (length (path H R h))) k ≡ path H R k
-  unfolding H' R' n
-  join_others k d = ⊎_elim
-      (λ l. is_only H' R' join_sound k l (path H R k) (others_are k l d))
-      (λ l. path_past H' R' k (omega (arith, length-set H u h, s.heads)) ∙ sym (path_past H R k (omega (arith, s.heads)))) (cases_lt k 64)
-
--- the last unit u of the chain of h is taken off
-module _ (H R : List ℕ) (s : Sound H R) (h u : ℕ) (ps : List ℕ) (below : h < 64) (last : path H R h ≡ ps ++ u ∷ []) where
-  G : List ℕ
-  G = set H u FREE
-
-  q : IsPath H R h (ps ++ u ∷ [])
-  q = rw last at (is H R s h below)
-
-  top : (at H u ≡ h) × (get_or R u 0 ≡ length ps)
-  top = rw (get_or_push ps u 0 (length ps) refl) at (q.noted (length ps) (omega (arith, length_push ps u)))
-
-  gone : at G u ≡ FREE
-  unfolding G
-  gone = get_or-set_same H u FREE FREE (inside H u (λ e. omega (arith, top.0)))
-
-  same : (x : ℕ) → x ≢ u → at G x ≡ at H x
-  unfolding G
-  same x k = get_or-set_other H u x FREE FREE k
-
-  stays : (x : ℕ) → at G x ≢ FREE → x ≢ u
-  stays x k e = k (ap (at G) e ∙ gone)
-
-  down'' : Down G R
-  down'' x (k, l) =
-      let a = stays x k in
-      let e = same x a in
-      let m : at H x ≢ FREE = λ t. k (e ∙ t) in
-      let t = unit_found H R (at H x) (get_or R x 0 - 1) (s.down x (m, l)) in
-      let v = unit_at H R (at H x) (get_or R x 0 - 1) in
-      let d : v ≢ u = λ z. past_top x v z m l t in
-      rw e (unit_below G R (at H x) (get_or R x 0 - 1) v m (same v d ∙ t.0) t.1)
-    where
-      past_top : (x v : ℕ) → v ≡ u → at H x ≢ FREE → 0 < get_or R x 0 → (at H v ≡ at H x) × (get_or R v 0 ≡ get_or R x 0 - 1) → ⊥
-      past_top x v z m l t =
-          let e : at H x ≡ h = sym t.0 ∙ ap (at H) z ∙ top.0 in
-          let f : get_or R x 0 - 1 ≡ length ps = sym t.1 ∙ ap (λ w. get_or R w 0) z ∙ top.1 in
-          q.done x e (omega (arith, length_push ps u))
-
-  pub part_sound : Sound (set H u FREE) R
-  unfolding G
-  part_sound = record {
-    heads = length-set H u FREE ∙ s.heads;
-    ranks = s.ranks;
-    unique = λ x y t. let a = stays x t.0 in let b = stays y (λ e. t.0 (t.1 ∙ e)) in
-        s.unique x y ((λ e. t.0 (same x a ∙ e)), sym (same x a) ∙ t.1 ∙ same y b, t.2);
-    down = down'';
-    named = λ x t. let a = stays x t.0 in same x a ∙ s.named x ((λ e. t.0 (same x a ∙ e)), t.1);
-  }
-
-  pub part_path : path (set H u FREE) R h ≡ ps
-  unfolding G
-  part_path = is_only G R part_sound h below ps (record {
-    noted = λ r l. let t = rw (get_or_append_left ps (u ∷ []) 0 r l) at (q.noted r (omega (arith, length_push ps u))) in
-        let d : get_or ps r 0 ≢ u = λ e. omega (arith, ap (λ w. get_or R w 0) e, top.1, t.1) in (same _ d ∙ t.0, t.1);
-    done = λ x e f. let a = stays x (λ z. omega (arith, e, z)) in
-        a (s.unique x u ((λ z. omega (arith, sym (same x a) ∙ e, z)), sym (same x a) ∙ e ∙ sym top.0, f ∙ sym top.1));
+  pub join_others : (k : ℕ) → k ≢ h → path (set N u (Some (note h (length (path N h))))) k ≡ path N k
+  unfolding J n
+  join_others k d = path_only J k (path N k) unique' (record {
+    ranked = λ r l. stays _ (note k r) ((path_is N k).ranked r l);
+    done = λ x e. ⊎_elim
+        (λ (a : x ≡ u). d (one_note J x u k h _ n a e here).0)
+        (λ a. (path_is N k).done x (sym (else x a) ∙ e)) (cases_eq x u);
   })
 
-  pub part_others : (k : ℕ) → k ≢ h → path (set H u FREE) R k ≡ path H R k
+-- the last unit u of the chain of h is taken off
+module _ (N : List (Option Note)) (s : Sound N) (h u : ℕ) (us : List ℕ) (last : path N h ≡ us ++ u ∷ []) where
+  G : List (Option Note)
+  G = set N u None
+
+  is : IsPath N h (us ++ u ∷ [])
+  is = rw last at (path_is N h)
+
+  pub top : note_at N u ≡ Some (note h (length us))
+  top = rw (get_or_push us u 0 (length us) refl) at (is.ranked (length us) (omega (arith, length_push us u)))
+
+  gone : note_at G u ≡ None
   unfolding G
-  part_others k d = ⊎_elim
-      (λ l. is_only G R part_sound k l (path H R k) (kept l))
-      (λ l. path_past G R k (omega (arith, length-set H u FREE, s.heads)) ∙ sym (path_past H R k (omega (arith, s.heads)))) (cases_lt k 64)
+  gone = get_or-set_same N u None None (inside N u _ top)
+
+  same : (x : ℕ) → x ≢ u → note_at G x ≡ note_at N x
+  unfolding G
+  same x k = get_or-set_other N u x None None k
+
+  was : (x : ℕ) (o : Note) → note_at G x ≡ Some o → (x ≢ u) × (note_at N x ≡ Some o)
+  was x o e =
+      let a : x ≢ u = λ k. none-some o (sym gone ∙ ap (note_at G) (sym k) ∙ e) in (a, sym (same x a) ∙ e)
+
+  -- what notes another head or rank stays
+  keeps : (x k r : ℕ) → ((k ≡ h) → (r ≡ length us) → ⊥) → note_at N x ≡ Some (note k r) → note_at G x ≡ Some (note k r)
+  keeps x k r d e = same x (λ i. let t = one_note N x u k h r (length us) i e top in d t.0 t.1) ∙ e
+
+  unique'' : Unique G
+  unique'' x y o e f = s.unique x y o (was x o e).1 (was y o f).1
+
+  pub part_sound : Sound (set N u None)
+  unfolding G
+  part_sound = record {
+    counted = length-set N u None ∙ s.counted;
+    unique = unique'';
+    down = λ x k r e. let i = (was x _ e).1 in let t = before N x k r s.down i in
+        found G k r t.0 (keeps t.0 k r (λ a b. is.done x (i ∙ ap Some (past k r a b))) t.1);
+    named = λ x k e. s.named x k (was x _ e).1;
+  }
     where
-      kept : k < 64 → IsPath G R k (path H R k)
-      kept l = let i = is H R s k l in record {
-        noted = λ r j. let t = i.noted r j in
-            let z : get_or (path H R k) r 0 ≢ u = λ e. d (sym t.0 ∙ ap (at H) e ∙ top.0) in (same _ z ∙ t.0, t.1);
-        done = λ x e f. let a = stays x (λ z. omega (arith, e, z)) in i.done x (sym (same x a) ∙ e) f;
-      }
+      past : (k r : ℕ) → k ≡ h → r ≡ length us → note k (r + 1) ≡ note h (length (us ++ u ∷ []))
+      past k r a b = rw (a, b, length_push us u) refl
+
+  pub part_path : path (set N u None) h ≡ us
+  unfolding G
+  part_path = path_only G h us unique'' (record {
+    ranked = λ r l. keeps _ h r (λ a b. omega arith)
+        (rw (get_or_append_left us (u ∷ []) 0 r l) at (is.ranked r (omega (arith, length_push us u))));
+    done = λ x e. let t = was x _ e in t.0 (s.unique x u _ t.1 top);
+  })
+
+  pub part_others : (k : ℕ) → k ≢ h → path (set N u None) k ≡ path N k
+  unfolding G
+  part_others k d = path_only G k (path N k) unique'' (record {
+    ranked = λ r l. keeps _ k r (λ a b. d a) ((path_is N k).ranked r l);
+    done = λ x e. (path_is N k).done x (was x _ e).1;
+  })

@@ -1,124 +1,131 @@
 -- The calls that begin a chain, lengthen it by a unit and shorten it by one.
 -- Assumes nothing.
-use Rattle.std.proofs.Common.{◌≡◌, ℕ, suc, ◌+◌, ◌-◌, ◌<◌, ◌≤◌, Bool, true, false, cond, ltb, ◌≢◌, List, [], ◌∷◌, ◌++◌, length, get_or, take, set, is_some, Some, None, count_by, unwrap_or, sym, refl, ap, ◌∙◌, ⊎_elim, arith}
+use Rattle.std.proofs.Common.{◌≡◌, ℕ, suc, ◌+◌, ◌-◌, ◌<◌, ◌≤◌, Bool, true, false, cond, eqb, ltb, ◌||◌, List, [], ◌∷◌, ◌++◌, length, get_or, take, set, is_none, Some, None, Option, count_by, unwrap_or, sym, refl, ap, ◌∙◌, ⊎_elim, arith}
+use Rattle.std.proofs.lemmas.Option.{same_Some, none-some}
 use Rattle.std.proofs.lemmas.List.{take_more, take_all}
+use Rattle.std.proofs.lemmas.List.Quantifiers.{position-Some}
 use Rattle.std.proofs.lemmas.List.Sums.{sum_by-cons}
-use Rattle.std.proofs.lemmas.Bool.{cases_lt, lt-ltb, le-ltb, eq-eqb, ne_eqb, and_from, or_left, or_right, cond-true}
-use Rattle.links.specs.Links.{FREE, free, at}
-use Rattle.store.specs.Meaning.{Notes, Store, zeros, with_chain}
+use Rattle.std.proofs.lemmas.Bool.{cases_lt, lt-ltb, le-ltb, eq-eqb, and_from, or_left, or_right, cond-true, cond-false, false≢true}
+use Rattle.store.specs.Meaning.{Notes, Store, zeros, with_chain, refuse, due_extend, extended}
 use Rattle.chain.specs.Units.{content}
-use Rattle.chain.proofs.Joined.{in_get_d}
 use Rattle.cells.specs.declared.Cells.{Cells}
+use Rattle.cells.specs.declared.Note.{Note}
 use Rattle.cells.specs.Meant.{meant, Starts}
-use Rattle.cells.specs.Noted.{unit_at, lowest_free, found, path, joins}
-use Rattle.cells.specs.Stored.{viewed, stored, joined_to, given, gives, taken_back}
-use Rattle.cells.proofs.Changes.{is, part_sound}
-use Rattle.cells.proofs.Paths.{Kept, kept, sound_of}
-use Rattle.cells.proofs.Seeks.{free-found, free-none, found_some, found_none, unit_below, unit_is}
-use Rattle.cells.proofs.Stores.{head_small, notes_head, path_first, chain_some, chain_none, part_stored, one_free}
+use Rattle.cells.specs.Noted.{note_at, unit_at, lowest_free, path, counted, joins}
+use Rattle.cells.specs.Stored.{viewed, stored, joined_to, taken_back}
+use Rattle.cells.proofs.Changes.{part_sound}
+use Rattle.cells.proofs.Paths.{Sound, sound_of, path_is}
+use Rattle.cells.proofs.Seeks.{note, position_some, unit_is}
+use Rattle.cells.proofs.Stores.{path_first, chain_some, chain_none, part_stored, one_free}
 
-pub some_found : (n u w : ℕ) → Some w ≡ found n u → (w ≡ u) × (u < n)
-some_found n u w e = ⊎_elim
-    (λ l. (let t : Some w ≡ Some u = e ∙ sym (found_some n u l) in cc, l))
-    (λ l. absurd (let t = e ∙ sym (found_none n u l) in let z : ◌≡◌ {A = ℕ} 0 1 = cc in omega arith)) (cases_lt u n)
+-- what the number of a head's units tells
+pub none_counted : (us : List ℕ) → None ≡ counted us → length us ≤ 0
+none_counted [] e = omega arith
+none_counted (u ∷ us) e = absurd (none-some _ e)
 
-pub none_found : (n u : ℕ) → None ≡ found n u → n ≤ u
-none_found n u e = ⊎_elim
-    (λ l. absurd (let t = e ∙ sym (found_some n u l) in let z : ◌≡◌ {A = ℕ} 0 1 = cc in omega arith)) (λ l. l) (cases_lt u n)
+pub some_counts : (us : List ℕ) (k : ℕ) → Some k ≡ counted us → (k ≡ length us) × (0 < length us)
+some_counts [] k e = absurd (none-some k (sym e))
+some_counts (u ∷ us) k e = (same_Some k _ e, omega arith)
 
-all_used : (H : List ℕ) → ((u : ℕ) → u < length H → at H u ≢ FREE) → count_by free H ≡ 0
-all_used [] h = refl
-all_used (x ∷ H) h = sum_by-cons (λ y. cond (free y) 1 0) x H ∙ rw (ne_eqb x FREE (h 0 (omega arith))) (omega (arith, all_used H (λ u l. h (suc u) (omega arith))))
+-- a free unit is none that notes anything
+pub is_free : (o : Option Note) → is_none o ≡ true → o ≡ None
+is_free None e = refl
+is_free (Some n) e = absurd (false≢true e)
 
--- a head with k units, k not 0, and what is found as its last unit
-module _ (c : Cells) (h k : ℕ) (units : k ≡ length (path c.heads c.ranks h)) (d : k ≢ 0) where
-  small : h < 64
-  small = head_small c.heads c.ranks (sound_of c) h _ (in_get_d (path c.heads c.ranks h) 0 (omega arith))
+free_some : (N : List (Option Note)) (u : ℕ) → Some u ≡ lowest_free N → (u < length N) × (note_at N u ≡ None)
+free_some N u e = let t = position-Some is_none N u None (sym e) in (t.0, is_free _ t.1)
 
-  noted_last : (at c.heads (get_or (path c.heads c.ranks h) (k - 1) 0) ≡ h) × (get_or c.ranks (get_or (path c.heads c.ranks h) (k - 1) 0) 0 ≡ k - 1)
-  noted_last = (is c.heads c.ranks (sound_of c) h small).noted (k - 1) (omega arith)
+all_used : (N : List (Option Note)) → None ≡ lowest_free N → count_by is_none N ≡ 0
+all_used N e = go N (λ i l f. let t = position_some is_none N i None l (ap is_none f) in none-some t.0 (e ∙ t.1))
+  where
+    go : (N : List (Option Note)) → ((i : ℕ) → i < length N → note_at N i ≡ None → ⊥) → count_by is_none N ≡ 0
+    go [] h = refl
+    go (None ∷ N) h = absurd (h 0 (omega arith) refl)
+    go (Some o ∷ N) h = sum_by-cons (λ x. cond (is_none x) 1 0) (Some o) N ∙ omega (arith, go N (λ i l f. h (suc i) (omega arith) f))
 
-  pub part_none : None ≡ found 64 (unit_at c.heads c.ranks h (k - 1)) → ⊥
-  part_none e =
-      let b = unit_below c.heads c.ranks h (k - 1) _ (omega (arith, small)) noted_last.0 noted_last.1 in
-      omega (arith, none_found 64 _ e, c.headed)
+-- the last unit of a chain of k
+module _ (c : Cells) (h k u : ℕ) (units : Some k ≡ counted (path c.notes h)) where
+  noted_last : note_at c.notes (get_or (path c.notes h) (k - 1) 0) ≡ Some (note h (k - 1))
+  noted_last = let t = some_counts _ k units in (path_is c.notes h).ranked (k - 1) (omega (arith, t.0, t.1))
 
-  module _ (u : ℕ) (e : Some u ≡ found 64 (unit_at c.heads c.ranks h (k - 1))) where
+  pub part_none : None ≡ unit_at c.notes h (k - 1) → ⊥
+  part_none e = none-some _ (e ∙ unit_is c.notes h (k - 1) _ c.unique noted_last)
+
+  module _ (e : Some u ≡ unit_at c.notes h (k - 1)) where
     front : List ℕ
-    front = take (k - 1) (path c.heads c.ranks h)
+    front = take (k - 1) (path c.notes h)
 
-    last : path c.heads c.ranks h ≡ front ++ u ∷ []
+    last : path c.notes h ≡ front ++ u ∷ []
     unfolding front
     last =
-        let ps = path c.heads c.ranks h in
-        let w = unit_is c.heads c.ranks h (k - 1) (get_or ps (k - 1) 0) c.unique (omega (arith, small)) noted_last.0 noted_last.1 in
-        let z : k - 1 + 1 ≡ k = omega arith in
-        sym (take_all k ps (omega arith)) ∙ ap (λ i. take i ps) (sym z) ∙ take_more ps (k - 1) 0 (omega arith)
-        ∙ ap (λ x. take (k - 1) ps ++ x ∷ []) (sym w ∙ sym (some_found 64 _ u e).0)
+        let us = path c.notes h in
+        let t = some_counts us k units in
+        let w = same_Some _ _ (e ∙ unit_is c.notes h (k - 1) (get_or us (k - 1) 0) c.unique noted_last) in
+        let z : k - 1 + 1 ≡ k = omega (arith, t.0, t.1) in
+        sym (take_all k us (omega (arith, t.0))) ∙ ap (λ i. take i us) (sym z) ∙ take_more us (k - 1) 0 (omega (arith, t.0, t.1))
+        ∙ ap (λ x. take (k - 1) us ++ x ∷ []) (sym w)
 
-    pub part_kept : Kept (set c.heads u FREE) c.ranks c.bytes
-    part_kept = kept _ c.ranks c.bytes (part_sound c.heads c.ranks (sound_of c) h u front small last) c.filled
+    pub rest_sound : Sound (set c.notes u None)
+    rest_sound = part_sound c.notes (sound_of c) h u front last
 
-    pub part_told : (n : Notes) → (true ≡ is_some ((meant c n).chain h)) × (stored (set c.heads u FREE) c.ranks c.bytes n ≡ taken_back (meant c n) h)
-    part_told n = (
-      sym (ap is_some (chain_some c.heads c.ranks (sound_of c) c.bytes c.filled n h (omega arith))),
-      part_stored c.heads c.ranks c.bytes (sound_of c) c.filled n h u front small last,
-    )
+    pub part_left : (n : Notes) → stored (set c.notes u None) c.bytes n ≡ taken_back (meant c n) h
+    part_left n = part_stored c.notes c.bytes (sound_of c) c.filled n h u front last
+
+module _ (c : Cells) (n : Notes) (h : ℕ) where
+  pub absent : None ≡ counted (path c.notes h) → (meant c n).chain h ≡ None
+  absent e = chain_none c.notes (sound_of c) c.bytes c.filled n h (none_counted _ e)
+
+  pub here : (k : ℕ) → Some k ≡ counted (path c.notes h) → (meant c n).chain h ≡ Some (content (viewed c.notes c.bytes) h)
+  here k e = chain_some c.notes (sound_of c) c.bytes c.filled n h (some_counts _ k e).1
+
+-- a free unit goes to the end of a chain, or begins one
+module _ (N : List (Option Note)) (u : ℕ) (e : Some u ≡ lowest_free N) where
+  free_joins : (h : ℕ) → (ltb 0 (length (path N h)) || eqb u h) ≡ true → joins N u h ≡ true
+  free_joins h o = let t = free_some N u e in and_from _ _ (and_from _ _ (lt-ltb u (length N) t.0) (ap is_none t.1)) o
+
+  joins_itself : joins N u u ≡ true
+  joins_itself = free_joins u (or_right (ltb 0 (length (path N u))) _ (eq-eqb u u refl))
+
+  joins_chain : (h k : ℕ) → Some k ≡ counted (path N h) → joins N u h ≡ true
+  joins_chain h k f = free_joins h (or_left _ _ (lt-ltb 0 _ (some_counts _ k f).1))
+
+  joined_not : (t : Bool) → t ≡ true → ◌≡◌ {A = Option ℕ} None (cond t (Some u) None) → ⊥
+  joined_not true a f = none-some u f
+  joined_not false a f = false≢true a
+
+  pub start_joins : None ≡ cond (joins N u u) (Some u) None → ⊥
+  start_joins = joined_not (joins N u u) joins_itself
+
+  pub give_joins : (h k : ℕ) → Some k ≡ counted (path N h) → None ≡ cond (joins N u h) (Some u) None → ⊥
+  give_joins h k f = joined_not (joins N u h) (joins_chain h k f)
 
 module _ (c : Cells) (n : Notes) where
-  free_some : (u : ℕ) → Some u ≡ found 64 (lowest_free c.heads) → (u < 64) × (at c.heads u ≡ FREE)
-  free_some u e = let t = some_found 64 (lowest_free c.heads) u e in
-      (omega arith, rw t.0 (free-found c.heads (omega (arith, c.headed, t.1))))
+  pub start_none : None ≡ lowest_free c.notes → Starts None (meant c n) (meant c n)
+  start_none e = (all_used c.notes e, refl)
 
-  room_none : None ≡ found 64 (lowest_free c.heads) → (meant c n).room ≡ 0
-  room_none e = all_used c.heads (free-none c.heads (omega (arith, c.headed, none_found 64 _ e)))
+  module _ (u : ℕ) (e : Some u ≡ lowest_free c.notes) where
+    room : 0 < count_by is_none c.notes
+    room = let t = free_some c.notes u e in one_free c.notes u t.0 t.1
 
-  here : (h : ℕ) → length (path c.heads c.ranks h) ≢ 0 → (meant c n).chain h ≡ Some (content (viewed c.heads c.ranks c.bytes) h)
-  here h d = chain_some c.heads c.ranks (sound_of c) c.bytes c.filled n h (omega arith)
+    pub start_some : (after : Store) → after ≡ cond (joins c.notes u u) (joined_to (meant c n) u) (meant c n) → Starts (Some u) (meant c n) after
+    start_some after a =
+        let t = free_some c.notes u e in
+        let empty : length (path c.notes u) ≤ 0 = ⊎_elim
+        (λ l. absurd (none-some _ (sym t.1 ∙ ap (note_at c.notes) (sym (path_first c.notes u (sound_of c) l)) ∙ (path_is c.notes u).ranked 0 l)))
+        (λ l. l) (cases_lt 0 (length (path c.notes u))) in
+        let none = chain_none c.notes (sound_of c) c.bytes c.filled n u empty in (
+          room,
+          omega (arith, t.0, c.counted),
+          none,
+          a ∙ cond-true (joins c.notes u u) _ _ (joins_itself c.notes u e) ∙ ap (λ xs. with_chain (meant c n) u (Some (xs ++ zeros (meant c n) 1)) ((meant c n).room - 1)) (ap (λ o. unwrap_or o []) none),
+        )
 
-  absent : (h : ℕ) → length (path c.heads c.ranks h) ≡ 0 → (meant c n).chain h ≡ None
-  absent h e = chain_none c.heads c.ranks (sound_of c) c.bytes c.filled n h (omega arith)
+    module _ (h k : ℕ) (f : Some k ≡ counted (path c.notes h)) where
+      pub give_due : (layer : ℕ) → due_extend (meant c n) layer h 1 ≡ None
+      give_due layer = rw (here c n h k f) (cond-false _ _ _ (le-ltb (meant c n).room 1 (omega (arith, room))))
 
-  module _ (h k : ℕ) (units : k ≡ length (path c.heads c.ranks h)) where
-    pub give_absent : k ≡ 0 → (false ≡ gives (meant c n) h) × (meant c n ≡ given (meant c n) h)
-    give_absent e = rw (absent h (sym units ∙ e)) (refl, refl)
+      pub give_left : (layer : ℕ) (after : Store) → after ≡ cond (joins c.notes u h) (joined_to (meant c n) h) (meant c n) → after ≡ extended (meant c n) layer h 1
+      give_left layer after a = rw (give_due layer) (a ∙ cond-true (joins c.notes u h) _ _ (joins_chain c.notes u e h k f))
 
-    pub give_full : k ≢ 0 → None ≡ found 64 (lowest_free c.heads) → (false ≡ gives (meant c n) h) × (meant c n ≡ given (meant c n) h)
-    give_full d e = let r = room_none e in rw (here h (λ z. d (units ∙ z)), le-ltb 0 (meant c n).room (omega arith)) (refl, refl)
-
-    pub give_more : (u : ℕ) (r : Bool) (after : Store) → k ≢ 0 → Some u ≡ found 64 (lowest_free c.heads) → r ≡ joins c.heads c.ranks u h
-        → after ≡ cond r (joined_to (meant c n) h) (meant c n) → (r ≡ gives (meant c n) h) × (after ≡ given (meant c n) h)
-    give_more u r after d e q a =
-        let t = free_some u e in
-        let yes : joins c.heads c.ranks u h ≡ true = and_from _ _
-        (and_from _ _ (lt-ltb u 64 t.0) (and_from _ _ (lt-ltb h 64 (small c h k units d)) (eq-eqb _ FREE t.1))) (or_left _ _ (lt-ltb 0 _ (some_units d))) in
-        let room = one_free c.heads u (omega (arith, c.headed, t.0)) t.1 in
-        rw (here h (λ z. d (units ∙ z)), lt-ltb 0 (meant c n).room room) (q ∙ yes, a ∙ cond-true r _ _ (q ∙ yes))
-      where
-        some_units : k ≢ 0 → 0 < length (path c.heads c.ranks h)
-        some_units d = omega arith
-
-    pub part_absent : k ≡ 0 → (false ≡ is_some ((meant c n).chain h)) × (meant c n ≡ taken_back (meant c n) h)
-    part_absent e = rw (absent h (sym units ∙ e)) (refl, refl)
-
-  pub start_none : None ≡ found 64 (lowest_free c.heads) → Starts None (meant c n) (meant c n)
-  start_none e = (room_none e, refl)
-
-  pub start_some : (u : ℕ) (r : Bool) (after : Store) → Some u ≡ found 64 (lowest_free c.heads) → r ≡ joins c.heads c.ranks u u
-      → after ≡ cond r (joined_to (meant c n) u) (meant c n) → Starts (Some u) (meant c n) after
-  start_some u r after e q a =
-      let t = free_some u e in
-      let empty : length (path c.heads c.ranks u) ≤ 0 = ⊎_elim
-      (λ l. absurd (let x = path_first c.heads c.ranks (sound_of c) u l in
-      let y = notes_head c.heads c.ranks (sound_of c) u _ (in_get_d (path c.heads c.ranks u) 0 l) in
-      omega (arith, t.0, t.1, sym (ap (at c.heads) x) ∙ y)))
-      (λ l. l) (cases_lt 0 (length (path c.heads c.ranks u))) in
-      let none = absent u (omega arith) in
-      let yes : joins c.heads c.ranks u u ≡ true = and_from _ _
-      (and_from _ _ (lt-ltb u 64 t.0) (and_from _ _ (lt-ltb u 64 t.0) (eq-eqb _ FREE t.1)))
-      (or_right (ltb 0 (length (path c.heads c.ranks u))) _ (eq-eqb u u refl)) in (
-        one_free c.heads u (omega (arith, c.headed, t.0)) t.1,
-        t.0,
-        none,
-        a ∙ cond-true r _ _ (q ∙ yes) ∙ ap (λ xs. with_chain (meant c n) u (Some (xs ++ zeros (meant c n) 1)) ((meant c n).room - 1)) (ap (λ o. unwrap_or o []) none),
-      )
+  pub give_full : (h k layer : ℕ) → Some k ≡ counted (path c.notes h) → None ≡ lowest_free c.notes → due_extend (meant c n) layer h 1 ≡ refuse 5 layer h
+  give_full h k layer f e = rw (here c n h k f) (cond-true _ _ _ (lt-ltb (meant c n).room 1 (omega (arith, all_used c.notes e))))

@@ -1,206 +1,211 @@
 -- The units of a head's chain: there is one list of them, and it is the one that is computed.
 -- Assumes nothing.
-use Rattle.std.proofs.Common.{◌≡◌, ℕ, zero, suc, ◌+◌, ◌-◌, ◌<◌, ◌≤◌, Bool, true, false, cond, ltb, ◌≢◌, ◌⊎◌, List, [], ◌∷◌, ◌++◌, length, get_or, replicate, is_some, Option, sym, refl, ap, ◌∙◌, inl, inr, ⊎_elim, arith}
-use Rattle.std.proofs.lemmas.List.{ext_get_or, get_or-replicate, get_or_past, length_push, get_or_push, get_or_append_left}
-use Rattle.std.proofs.lemmas.List.Sums.{count_by-le-length}
-use Rattle.std.proofs.lemmas.Bool.{cases_lt, cases_order, false≢true, lt-ltb, le-ltb, cond-true, cond-false}
-use Rattle.links.specs.Links.{FREE, live, at, In, Apart}
+use Rattle.std.proofs.Common.{◌≡◌, ℕ, zero, suc, ◌+◌, ◌<◌, ◌≤◌, cond, ltb, ◌≢◌, List, [], ◌∷◌, ◌++◌, length, get_or, map, replicate, is_some, is_none, count_by, Some, None, Option, sym, refl, ap, ◌∙◌, inl, inr, ⊎_elim, arith}
+use Rattle.std.specs.Bool.{then_some}
+use Rattle.std.specs.List.{range_with_len, take_while}
+use Rattle.std.proofs.lemmas.Option.{same_Some, none-some}
+use Rattle.std.proofs.lemmas.List.{ext_get_or, get_or-map, length-map, get_or-replicate, get_or_past, length_push, get_or_push, get_or_append_left}
+use Rattle.std.proofs.lemmas.List.Sums.{take_while-cons, sum_by-cons, count_by-le-length}
+use Rattle.std.proofs.lemmas.Bool.{cases_lt, cases_order, lt-ltb}
+use Rattle.links.specs.Links.{FREE, free, live, at, In, Apart}
 use Rattle.links.proofs.Counts.{live_count}
 use Rattle.cells.specs.declared.Cells.{Cells}
-use Rattle.cells.specs.Noted.{unit_at, found, run, path, Unique, Down, Named}
-use Rattle.cells.proofs.Seeks.{unit_found, unit_below, found_some, found_none}
+use Rattle.cells.specs.declared.Note.{Note}
+use Rattle.cells.specs.Noted.{note_at, unit_at, ranks, followed, run, counted, path, Unique, Down, Named}
+use Rattle.cells.proofs.Seeks.{note, inside, unit_found, unit_there}
 
-pub record Sound (H R : List ℕ) : Type 0 where
-  pub heads : length H ≡ 64
-  pub ranks : length R ≡ 64
-  pub unique : Unique H R
-  pub down : Down H R
-  pub named : Named H R
+pub record Sound (N : List (Option Note)) : Type 0 where
+  pub counted : length N ≡ 64
+  pub unique : Unique N
+  pub down : Down N
+  pub named : Named N
 
--- the invariant of the struct, as it is owed
-pub record Kept (H R B : List ℕ) : Type 0 where
-  pub headed : length H ≡ 64
-  pub ranked : length R ≡ 64
-  pub filled : length B ≡ 32768
-  pub unique : Unique H R
-  pub down : Down H R
-  pub named : Named H R
+pub sound_of : (c : Cells) → Sound c.notes
+sound_of c = record { counted = c.counted; unique = c.unique; down = c.down; named = c.named }
 
-pub kept : (H R B : List ℕ) → Sound H R → length B ≡ 32768 → Kept H R B
-kept H R B s f = record { headed = s.heads; ranked = s.ranks; filled = f; unique = s.unique; down = s.down; named = s.named }
+-- each of us notes h, and as rank its place
+abbrev pub Ranked : List (Option Note) → ℕ → List ℕ → Type 0
+Ranked N h us = (r : ℕ) → r < length us → note_at N (get_or us r 0) ≡ Some (note h r)
 
-pub sound_of : (c : Cells) → Sound c.heads c.ranks
-sound_of c = record { heads = c.headed; ranks = c.ranked; unique = c.unique; down = c.down; named = c.named }
+-- us are the units of the ranks 0, 1, .. of h, and there is none of the next rank
+pub record IsPath (N : List (Option Note)) (h : ℕ) (us : List ℕ) : Type 0 where
+  pub ranked : Ranked N h us
+  pub done : (u : ℕ) → note_at N u ≡ Some (note h (length us)) → ⊥
 
--- ps are the units of the ranks 0, 1, .. of h, and there is none of the next rank
-pub record IsPath (H R : List ℕ) (h : ℕ) (ps : List ℕ) : Type 0 where
-  pub noted : (r : ℕ) → r < length ps → (at H (get_or ps r 0) ≡ h) × (get_or R (get_or ps r 0) 0 ≡ r)
-  pub done : (u : ℕ) → at H u ≡ h → get_or R u 0 ≡ length ps → ⊥
+-- no unit notes two heads, nor two ranks
+pub one_note : (N : List (Option Note)) (u v h k r q : ℕ) → u ≡ v → note_at N u ≡ Some (note h r) → note_at N v ≡ Some (note k q) → (h ≡ k) × (r ≡ q)
+one_note N u v h k r q s e f =
+    let t = same_Some (note h r) (note k q) (sym e ∙ ap (note_at N) s ∙ f) in (ap (λ n. n.head) t, ap (λ n. n.rank) t)
 
-pub same_path : (H R : List ℕ) (h : ℕ) (ps qs : List ℕ) → Unique H R → h ≢ FREE → IsPath H R h ps → IsPath H R h qs → ps ≡ qs
-same_path H R h ps qs once n p q = ext_get_or 0 ps qs long each
-  where
-    long : length ps ≡ length qs
-    long = ⊎_elim (λ e. e) (⊎_elim
-        (λ l. absurd (p.done _ (q.noted (length ps) l).0 (q.noted (length ps) l).1))
-        (λ l. absurd (q.done _ (p.noted (length qs) l).0 (p.noted (length qs) l).1))) (cases_order (length ps) (length qs))
-
-    each : (i : ℕ) → i < length ps → get_or ps i 0 ≡ get_or qs i 0
-    each i l =
-        let a = p.noted i l in
-        let b = q.noted i (omega (arith, long)) in
-        once _ _ ((λ s. n (sym a.0 ∙ s)), a.0 ∙ sym b.0, a.1 ∙ sym b.1)
-
--- the computed list, from a rank on and as far as its bound
-module _ (H R : List ℕ) (h : ℕ) where
-  run-noted : (n r j : ℕ) → j < length (run n H R h r) → (at H (get_or (run n H R h r) j 0) ≡ h) × (get_or R (get_or (run n H R h r) j 0) 0 ≡ r + j)
-  unfolding run
-  run-noted zero r j l = absurd (omega arith)
-  run-noted (suc n) r j l = go (run-noted n (suc r)) (cases_lt (unit_at H R h r) (length H)) j l
+module _ (N : List (Option Note)) (h : ℕ) where
+  pub same_path : (us vs : List ℕ) → Unique N → IsPath N h us → IsPath N h vs → us ≡ vs
+  same_path us vs once p q = ext_get_or 0 us vs long
+      (λ i l. once _ _ (note h i) (p.ranked i l) (q.ranked i (omega (arith, long))))
     where
-      go : ((j : ℕ) → j < length (run n H R h (suc r)) → (at H (get_or (run n H R h (suc r)) j 0) ≡ h) × (get_or R (get_or (run n H R h (suc r)) j 0) 0 ≡ suc r + j))
-          → (unit_at H R h r < length H) ⊎ (length H ≤ unit_at H R h r) → (j : ℕ) → j < length (run (suc n) H R h r)
-          → (at H (get_or (run (suc n) H R h r) j 0) ≡ h) × (get_or R (get_or (run (suc n) H R h r) j 0) 0 ≡ r + j)
-      go rest (inl i) zero k = let f = unit_found H R h r i in rw (lt-ltb _ _ i) (f.0, f.1 ∙ omega arith)
-      go rest (inl i) (suc j) k =
-          let t = lt-ltb (unit_at H R h r) (length H) i in
-          let f = rest j (omega (arith, rw t at k)) in rw t (f.0, f.1 ∙ omega arith)
-      go rest (inr i) j k = absurd (omega (arith, rw (le-ltb (unit_at H R h r) (length H) i) at k))
+      long : length us ≡ length vs
+      long = ⊎_elim (λ e. e) (⊎_elim
+          (λ l. absurd (p.done _ (q.ranked (length us) l)))
+          (λ l. absurd (q.done _ (p.ranked (length vs) l)))) (cases_order (length us) (length vs))
 
-  run_done : (n r : ℕ) → h ≢ FREE → length (run n H R h r) < n → (u : ℕ) → at H u ≡ h → get_or R u 0 ≡ r + length (run n H R h r) → ⊥
+  -- the computed list, from a rank on and as far as its bound
+  abbrev Ranks : ℕ → ℕ → Type 0
+  Ranks n r = (i : ℕ) → i < length (run n N h r) → note_at N (get_or (run n N h r) i 0) ≡ Some (note h (r + i))
+
+  run_ranked : (n r : ℕ) → Ranks n r
   unfolding run
-  run_done zero r f l u e g = omega arith
-  run_done (suc n) r f l u e g = go (run_done n (suc r) f) (cases_lt (unit_at H R h r) (length H)) l g
+  run_ranked zero r i l = absurd (omega arith)
+  run_ranked (suc n) r i l = go (run_ranked n (suc r)) (unit_at N h r) refl i l
     where
-      go : (length (run n H R h (suc r)) < n → (u : ℕ) → at H u ≡ h → get_or R u 0 ≡ suc r + length (run n H R h (suc r)) → ⊥)
-          → (unit_at H R h r < length H) ⊎ (length H ≤ unit_at H R h r) → length (run (suc n) H R h r) < suc n → get_or R u 0 ≡ r + length (run (suc n) H R h r) → ⊥
-      go rest (inl i) k m =
-          let t = lt-ltb (unit_at H R h r) (length H) i in
-          rest (omega (arith, rw t at k)) u e (rw t at m ∙ omega arith)
-      go rest (inr i) k m =
-          let t = le-ltb (unit_at H R h r) (length H) i in
-          let b = unit_below H R h r u f e (rw t at m ∙ omega arith) in omega arith
+      go : Ranks n (suc r) → (o : Option ℕ) → unit_at N h r ≡ o → (i : ℕ) → i < length (followed o (run n N h (suc r)))
+          → note_at N (get_or (followed o (run n N h (suc r))) i 0) ≡ Some (note h (r + i))
+      go rest None e i k = absurd (omega arith)
+      go rest (Some u) e zero k = unit_found N h r u e ∙ ap (λ q. Some (note h q)) (omega arith)
+      go rest (Some u) e (suc i) k = rest i (omega arith) ∙ ap (λ q. Some (note h q)) (omega arith)
 
-  run_short : (n r : ℕ) → length (run n H R h r) ≤ n
+  abbrev Ends : ℕ → ℕ → Type 0
+  Ends n r = length (run n N h r) < n → (u : ℕ) → note_at N u ≡ Some (note h (r + length (run n N h r))) → ⊥
+
+  run_done : (n r : ℕ) → Ends n r
+  unfolding run
+  run_done zero r l u e = omega arith
+  run_done (suc n) r l u e = go (run_done n (suc r)) (unit_at N h r) refl l e
+    where
+      go : Ends n (suc r) → (o : Option ℕ) → unit_at N h r ≡ o → length (followed o (run n N h (suc r))) < suc n
+          → note_at N u ≡ Some (note h (r + length (followed o (run n N h (suc r))))) → ⊥
+      go rest None f k m = let v = unit_there N h r u (m ∙ ap (λ q. Some (note h q)) (omega arith)) in none-some v.0 (sym f ∙ v.1)
+      go rest (Some v) f k m = rest (omega arith) u (m ∙ ap (λ q. Some (note h q)) (omega arith))
+
+  run_short : (n r : ℕ) → length (run n N h r) ≤ n
   unfolding run
   run_short zero r = omega arith
-  run_short (suc n) r = go (run_short n (suc r)) (ltb (unit_at H R h r) (length H))
+  run_short (suc n) r = go (run_short n (suc r)) (unit_at N h r)
     where
-      go : length (run n H R h (suc r)) ≤ n → (b : Bool) → length (cond b (unit_at H R h r ∷ run n H R h (suc r)) []) ≤ suc n
-      go k true = omega arith
-      go k false = omega arith
+      go : length (run n N h (suc r)) ≤ n → (o : Option ℕ) → length (followed o (run n N h (suc r))) ≤ suc n
+      go k None = omega arith
+      go k (Some u) = omega arith
+
+-- where something stands in a list
+pub place_of : (us : List ℕ) (x : ℕ) → In x us → (i : ℕ) × (i < length us) × (get_or us i 0 ≡ x)
+place_of [] x i = absurd i
+place_of (u ∷ us) x (inl e) = (0, omega arith, sym e)
+place_of (u ∷ us) x (inr i) = let r = place_of us x i in (suc r.0, omega arith, r.2)
 
 -- distinct at distinct places
-apart_places : (ps : List ℕ) → ((i j : ℕ) → i < length ps → j < length ps → get_or ps i 0 ≡ get_or ps j 0 → i ≡ j) → Apart ps
+apart_places : (us : List ℕ) → ((i j : ℕ) → i < length us → j < length us → get_or us i 0 ≡ get_or us j 0 → i ≡ j) → Apart us
 apart_places [] h = tt
-apart_places (p ∷ ps) h = (none, apart_places ps (λ i j k l e. omega (arith, h (suc i) (suc j) (omega arith) (omega arith) e)))
+apart_places (u ∷ us) h = (none, apart_places us (λ i j k l e. omega (arith, h (suc i) (suc j) (omega arith) (omega arith) e)))
   where
-    where_in : (x : ℕ) (qs : List ℕ) → In x qs → (i : ℕ) × (i < length qs) × (get_or qs i 0 ≡ x)
-    where_in x [] i = absurd i
-    where_in x (q ∷ qs) (inl e) = (0, omega arith, sym e)
-    where_in x (q ∷ qs) (inr i) = let r = where_in x qs i in (suc r.0, omega arith, r.2)
+    none : In u us → ⊥
+    none i = let r = place_of us u i in omega (arith, h 0 (suc r.0) (omega arith) (omega arith) (sym r.2))
 
-    none : In p ps → ⊥
-    none i = let r = where_in p ps i in let z = h 0 (suc r.0) (omega arith) (omega arith) (sym r.2) in omega arith
+module _ (N : List (Option Note)) (h : ℕ) (us : List ℕ) (n : Ranked N h us) where
+  pub ranked_apart : Apart us
+  ranked_apart = apart_places us (λ i j k l e. (one_note N _ _ h h i j e (n i k) (n j l)).1)
 
-pub noted_apart : (H R : List ℕ) (h : ℕ) (ps : List ℕ) → ((r : ℕ) → r < length ps → (at H (get_or ps r 0) ≡ h) × (get_or R (get_or ps r 0) 0 ≡ r)) → Apart ps
-noted_apart H R h ps n = apart_places ps (λ i j k l e. sym (n i k).1 ∙ ap (λ u. get_or R u 0) e ∙ (n j l).1)
+  pub ranked_head : (x : ℕ) → In x us → (r : ℕ) × (note_at N x ≡ Some (note h r))
+  ranked_head x i = let r = place_of us x i in (r.0, ap (note_at N) (sym r.2) ∙ n r.0 r.1)
 
-pub noted_heads : (H R : List ℕ) (h : ℕ) (ps : List ℕ) → ((r : ℕ) → r < length ps → (at H (get_or ps r 0) ≡ h) × (get_or R (get_or ps r 0) 0 ≡ r)) → (x : ℕ) → In x ps → at H x ≡ h
-noted_heads H R h ps n = go ps (λ r l. (n r l).0)
+-- the units as a table of links, FREE where a unit notes nothing
+abbrev mark : Option Note → ℕ
+mark None = FREE
+mark (Some n) = 0
+
+abbrev pub marked : List (Option Note) → List ℕ
+marked N = map mark N
+
+pub marked_live : (N : List (Option Note)) (u : ℕ) (n : Note) → note_at N u ≡ Some n → at (marked N) u ≢ FREE
+marked_live N u n e f = omega (arith, sym (get_or-map mark N u None FREE (inside N u n e) ∙ ap mark e) ∙ f)
+
+pub marked_free : (N : List (Option Note)) → count_by free (marked N) ≡ count_by is_none N
+marked_free [] = refl
+marked_free (o ∷ N) = rw (sum_by-cons (λ x. cond (free x) 1 0) (mark o) (marked N), sum_by-cons (λ x. cond (is_none x) 1 0) o N) (go o (marked_free N))
   where
-    go : (qs : List ℕ) → ((r : ℕ) → r < length qs → at H (get_or qs r 0) ≡ h) → (x : ℕ) → In x qs → at H x ≡ h
-    go [] m x i = absurd i
-    go (q ∷ qs) m x (inl e) = ap (at H) e ∙ m 0 (omega arith)
-    go (q ∷ qs) m x (inr i) = go qs (λ r l. m (suc r) (omega arith)) x i
+    go : (o : Option Note) → count_by free (marked N) ≡ count_by is_none N → cond (free (mark o)) 1 0 + count_by free (marked N) ≡ cond (is_none o) 1 0 + count_by is_none N
+    go None e = omega arith
+    go (Some n) e = omega arith
 
--- a unit of the rank behind all others would be one more than there are
-run_full : (H R : List ℕ) (h : ℕ) → h ≢ FREE → (u : ℕ) → at H u ≡ h → get_or R u 0 ≡ length H → (ps : List ℕ) → length ps ≡ length H
-    → ((r : ℕ) → r < length ps → (at H (get_or ps r 0) ≡ h) × (get_or R (get_or ps r 0) 0 ≡ r)) → ⊥
-run_full H R h n u e f ps l m =
-    let qs = ps ++ u ∷ [] in
-    let k = length_push ps u in
-    let each : (r : ℕ) → r < length qs → (at H (get_or qs r 0) ≡ h) × (get_or R (get_or qs r 0) 0 ≡ r) =
-    λ r i. ⊎_elim (λ j. rw (get_or_append_left ps (u ∷ []) 0 r j) (m r j))
-    (λ j. let s : length ps ≡ r = omega arith in rw (get_or_push ps u 0 r s) (e, f ∙ omega arith)) (cases_lt r (length ps)) in
-    let c = live_count H qs (noted_apart H R h qs each) (λ x i s. n (sym (noted_heads H R h qs each x i) ∙ s)) in
-    omega (arith, count_by-le-length live H)
+pub length-marked : (N : List (Option Note)) → length (marked N) ≡ length N
+length-marked N = length-map N mark
 
-module _ (H R : List ℕ) (h : ℕ) (below : h < length H) (heads : length H ≡ 64) where
-  head_live : h ≢ FREE
-  head_live e = omega arith
+module _ (N : List (Option Note)) (h : ℕ) where
+  -- no more units note a head than there are
+  ranked_few : (us : List ℕ) → Ranked N h us → length us ≤ length N
+  ranked_few us n = omega (
+    arith,
+    live_count (marked N) us (ranked_apart N h us n) (λ x i. let r = ranked_head N h us n x i in marked_live N x (note h r.0) r.1),
+    count_by-le-length live (marked N),
+    length-marked N,
+  )
 
-  pub path_is : IsPath H R h (path H R h)
+  pub path_short : length (path N h) ≤ length N
   unfolding path
-  path_is = rw (lt-ltb h (length H) below) (record {
-    noted = λ r l. ((run-noted H R h (length H) 0 r l).0, (run-noted H R h (length H) 0 r l).1 ∙ omega arith);
-    done = λ u e f. ⊎_elim
-        (λ l. run_done H R h (length H) 0 head_live l u e (f ∙ omega arith))
-        (λ l. let s : length (run (length H) H R h 0) ≡ length H = omega (arith, run_short H R h (length H) 0) in
-        run_full H R h head_live u e (f ∙ s) (run (length H) H R h 0) s (λ r k. ((run-noted H R h (length H) 0 r k).0, (run-noted H R h (length H) 0 r k).1 ∙ omega arith)))
-        (cases_lt (length (run (length H) H R h 0)) (length H));
-  })
+  path_short = run_short N h (length N) 0
 
--- the steps of a count of the ranks, rising
-module _ (H R : List ℕ) (full : length H ≡ 64) (h r : ℕ) (o : Option ℕ) (e : o ≡ found 64 (unit_at H R h r)) where
-  count_some : is_some o ≡ true → unit_at H R h r < length H
-  count_some t = ⊎_elim (λ l. omega arith) (λ l. absurd (false≢true (sym (ap is_some (e ∙ sym (found_none 64 _ l))) ∙ t))) (cases_lt (unit_at H R h r) 64)
+  -- a unit of the rank behind all others would be one more than there are
+  full : (us : List ℕ) → length us ≡ length N → Ranked N h us → (u : ℕ) → note_at N u ≡ Some (note h (length N)) → ⊥
+  full us l m u e =
+      omega (
+        arith,
+        length_push us u,
+        ranked_few (us ++ u ∷ []) (λ r i. ⊎_elim
+            (λ j. rw (get_or_append_left us (u ∷ []) 0 r j) (m r j))
+            (λ j. let s : length us ≡ r = omega (arith, length_push us u) in
+            rw (get_or_push us u 0 r s) (e ∙ ap (λ q. Some (note h q)) (sym l ∙ s))) (cases_lt r (length us))),
+      )
 
-  count_none : is_some o ≡ false → length H ≤ unit_at H R h r
-  count_none t = ⊎_elim (λ l. absurd (false≢true (sym t ∙ ap is_some (e ∙ sym (found_some 64 _ l))))) (λ l. omega arith) (cases_lt (unit_at H R h r) 64)
-
-  pub count_more : is_some o ≡ true → r < 64 → r + length (run (64 - r) H R h r) ≡ length (run 64 H R h 0)
-      → (r + 1) + length (run (64 - (r + 1)) H R h (r + 1)) ≡ length (run 64 H R h 0)
-  unfolding run
-  count_more t l inv =
-      let k : 64 - r ≡ suc (64 - (r + 1)) = omega arith in
-      let j : r + 1 ≡ suc r = omega arith in
-      let u = lt-ltb (unit_at H R h r) (length H) (count_some t) in
-      let i = rw (k, u) at inv in rw j (omega (arith, rw j at i))
-
-  pub count_done : is_some o ≡ false → r + length (run (64 - r) H R h r) ≡ length (run 64 H R h 0) → r ≡ length (run 64 H R h 0)
-  unfolding run
-  count_done t inv = omega (arith, ends (64 - r))
+  run_is : IsPath N h (run (length N) N h 0)
+  run_is = record {
+    ranked = ranked;
+    done = λ u e. ⊎_elim
+        (λ l. run_done N h (length N) 0 l u (e ∙ ap (λ q. Some (note h q)) (omega arith)))
+        (λ l. let s : length (run (length N) N h 0) ≡ length N = omega (arith, run_short N h (length N) 0) in
+        full (run (length N) N h 0) s ranked u (e ∙ ap (λ q. Some (note h q)) s))
+        (cases_lt (length (run (length N) N h 0)) (length N));
+  }
     where
-      ends : (n : ℕ) → length (run n H R h r) ≡ 0
-      ends zero = refl
-      ends (suc n) = rw (le-ltb (unit_at H R h r) (length H) (count_none t))
+      ranked : Ranked N h (run (length N) N h 0)
+      ranked r l = run_ranked N h (length N) 0 r l ∙ ap (λ q. Some (note h q)) (omega arith)
 
-pub count_all : (H R : List ℕ) (h r : ℕ) → 64 ≤ r → r ≤ 64 → r + length (run (64 - r) H R h r) ≡ length (run 64 H R h 0) → 64 ≡ length (run 64 H R h 0)
-unfolding run
-count_all H R h r l m inv = let k : r ≡ 64 = omega arith in rw k at inv
+  pub path_is : IsPath N h (path N h)
+  unfolding path
+  path_is = run_is
 
-pub path-run : (H R : List ℕ) (h : ℕ) → length H ≡ 64 → h < 64 → path H R h ≡ run 64 H R h 0
-unfolding path
-path-run H R h full l = rw full (cond-true _ _ _ (lt-ltb h 64 l))
+  pub path_only : (us : List ℕ) → Unique N → IsPath N h us → path N h ≡ us
+  path_only us once p = same_path N h (path N h) us once path_is p
+
+  -- the ranks that a unit notes, from a rank on
+  ranks-run : (n r : ℕ) → length (take_while (λ q. is_some (unit_at N h q)) (range_with_len r n)) ≡ length (run n N h r)
+  unfolding run
+  ranks-run zero r = refl
+  ranks-run (suc n) r =
+      let j : r + 1 ≡ suc r = omega arith in
+      rw (take_while-cons (λ q. is_some (unit_at N h q)) r (range_with_len (r + 1) n), j) (go (ranks-run n (suc r)) (unit_at N h r))
+    where
+      go : length (take_while (λ q. is_some (unit_at N h q)) (range_with_len (suc r) n)) ≡ length (run n N h (suc r)) → (o : Option ℕ)
+          → length (cond (is_some o) (r ∷ take_while (λ q. is_some (unit_at N h q)) (range_with_len (suc r) n)) []) ≡ length (followed o (run n N h (suc r)))
+      go e None = refl
+      go e (Some u) = ap suc e
+
+  pub ranks-path : length N ≡ 64 → ranks N h ≡ length (path N h)
+  unfolding path
+  ranks-path e = ranks-run 64 0 ∙ ap (λ k. length (run k N h 0)) (sym e)
+
+-- so many units, told as an option
+pub some_counted : (us : List ℕ) (k : ℕ) → k ≡ length us → then_some (ltb 0 k) k ≡ counted us
+some_counted [] k e = rw e refl
+some_counted (u ∷ us) k e = rw (e, lt-ltb 0 (length (u ∷ us)) (omega arith)) refl
 
 -- units of which none is on a chain
-module _ (R : List ℕ) where
-  fresh-free : (u : ℕ) → at (replicate 64 FREE) u ≡ FREE
-  fresh-free u = ⊎_elim (λ l. get_or-replicate 64 u FREE FREE l) (λ l. get_or_past (replicate 64 FREE) u FREE l) (cases_lt u 64)
+fresh_none : (u : ℕ) (n : Note) → note_at (replicate 64 None) u ≡ Some n → ⊥
+fresh_none u n e = none-some n (⊎_elim (λ l. sym (get_or-replicate 64 u None None l)) (λ l. sym (get_or_past (replicate 64 None) u None l)) (cases_lt u 64) ∙ e)
 
-  pub fresh_unique : Unique (replicate 64 FREE) R
-  fresh_unique u v t = absurd (t.0 (fresh-free u))
+pub fresh_sound : Sound (replicate 64 None)
+fresh_sound = record {
+  counted = refl;
+  unique = λ u v n e f. absurd (fresh_none u n e);
+  down = λ u h r e. absurd (fresh_none u (note h (r + 1)) e);
+  named = λ u h e. absurd (fresh_none u (note h 0) e);
+}
 
-  pub fresh_down : Down (replicate 64 FREE) R
-  fresh_down u t = absurd (t.0 (fresh-free u))
-
-  pub fresh_named : Named (replicate 64 FREE) R
-  fresh_named u t = absurd (t.0 (fresh-free u))
-
-  pub fresh-path : (h : ℕ) → path (replicate 64 FREE) R h ≡ []
-  unfolding path run
-  fresh-path h = ⊎_elim
-      (λ l. cond-true _ _ _ (lt-ltb h 64 l) ∙ none 64 h (omega arith))
-      (λ l. cond-false _ _ _ (le-ltb h 64 l)) (cases_lt h 64)
-    where
-      none : (n h : ℕ) → h ≢ FREE → run n (replicate 64 FREE) R h 0 ≡ []
-      none zero h m = refl
-      none (suc n) h m = cond-false _ _ _ (le-ltb (unit_at (replicate 64 FREE) R h 0) 64 (⊎_elim
-          (λ l. absurd (m (sym (unit_found (replicate 64 FREE) R h 0 l).0 ∙ fresh-free (unit_at (replicate 64 FREE) R h 0)))) (λ l. l) (cases_lt (unit_at (replicate 64 FREE) R h 0) 64)))
-
-pub path_short : (H R : List ℕ) (h : ℕ) → length (path H R h) ≤ length H
-unfolding path
-path_short H R h = ⊎_elim
-    (λ l. rw (lt-ltb h (length H) l) (run_short H R h (length H) 0))
-    (λ l. rw (le-ltb h (length H) l) (omega arith)) (cases_lt h (length H))
+pub fresh_path : (h : ℕ) → path (replicate 64 None) h ≡ []
+fresh_path h = path_only (replicate 64 None) h [] fresh_sound.unique (record { ranked = λ r l. absurd (omega arith); done = λ u e. fresh_none u (note h 0) e })

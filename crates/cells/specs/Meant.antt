@@ -1,27 +1,31 @@
 -- What the units in memory mean.
 -- Assumes nothing.
-use Rattle.std.specs.Prelude.{◌≡◌, ℕ, ◌-◌, ◌<◌, Bool, List, length, Some, None, Option, nat_le}
-use Rattle.store.specs.Meaning.{Store, Notes, bytes_of, laid, zeros, with_chain}
+use Rattle.std.specs.Prelude.{◌≡◌, ℕ, ◌-◌, ◌<◌, cond, Some, None, Ok, Err, Option, Result, ◌==◌}
+use Rattle.store.specs.declared.faults.Refusal.{Refusal}
+use Rattle.store.specs.Meaning.{Store, Notes, zeros, with_chain, due_copy}
+use Rattle.store.specs.Refusals.{Refused, number_of, answer}
 use Rattle.cells.specs.declared.Cells.{Cells}
 use Rattle.cells.specs.Stored.{stored}
 
 -- as a store, with any notes
 abbrev pub meant : Cells → Notes → Store
-meant c n = stored c.heads c.ranks c.bytes n
+meant c n = stored c.notes c.bytes n
 
--- a copy of the bytes from at on, up to end, lies within the chain of h
-abbrev pub within : Store → ℕ → ℕ → Bool
-within m h end = nat_le end (length (bytes_of m h))
+-- what a call told, as a store of that layer tells it, with the place
+abbrev pub told_by : {A : Type 0} → ℕ → ℕ → Result A Refusal → Result A Refused
+told_by layer place (Ok x) = Ok x
+told_by layer place (Err r) = Err (record { number = number_of r; layer = layer; place = place })
+
+-- that a call at a place told what is due there: of each layer, with any notes
+abbrev pub Tells : Cells → ℕ → (Store → ℕ → Option Refused) → Result (Unit {0}) Refusal → Type 0
+Tells c place due r = (n : Notes) (layer : ℕ) → told_by layer place r ≡ answer (due (meant c n) layer) tt
+
+-- what is due for a copy of the bytes up to end: as of a store, but that no bytes can be copied of what is no head too
+abbrev pub due_bytes : Store → ℕ → ℕ → ℕ → Option Refused
+due_bytes m layer h end = cond (end == 0) None (due_copy m layer h end)
 
 -- what a new head is: it was none, and its chain is one unit of zeros
 abbrev pub Starts : Option ℕ → Store → Store → Type 0
 Starts None m after = (m.room ≡ 0) × (after ≡ m)
-Starts (Some h) m after = (0 < m.room) × (h < 64) × (m.chain h ≡ None) × (after ≡ with_chain m h (Some (zeros m 1)) (m.room - 1))
-
-abbrev pub covered : Option (List ℕ) → Store → ℕ → ℕ → List ℕ → Store
-covered None m h at src = m
-covered (Some xs) m h at src = with_chain m h (Some (laid xs at src)) m.room
-
--- bytes laid over those of the chain of h, which may be none where there are none to lay
-abbrev pub overlaid : Store → ℕ → ℕ → List ℕ → Store
-overlaid m h at src = covered (m.chain h) m h at src
+Starts (Some h) m after =
+    (0 < m.room) × (h < 64) × (m.chain h ≡ None) × (after ≡ with_chain m h (Some (zeros m 1)) (m.room - 1))

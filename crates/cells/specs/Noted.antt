@@ -1,50 +1,61 @@
--- Units that note their head and their rank: H has the heads, FREE where a unit is on no chain, and R the ranks.
+-- Units that note their head and their rank: N has what each unit notes, nothing where it is on no chain.
 -- Assumes nothing.
-use Rattle.std.specs.Prelude.{◌≡◌, ℕ, zero, suc, ◌-◌, ◌<◌, Bool, cond, ◌&&◌, ◌||◌, ◌≢◌, List, [], ◌∷◌, length, Some, None, Option, ◌==◌, nat_eq, nat_lt, slice_index}
-use Rattle.links.specs.Links.{FREE, at}
+use Rattle.std.specs.Prelude.{◌≡◌, ℕ, zero, suc, ◌+◌, Bool, true, false, ◌&&◌, ◌||◌, List, [], ◌∷◌, length, is_some, is_none, Some, None, Option, ◌==◌, nat_lt, position, take_while, slice_index_or}
+use Rattle.std.specs.List.{range_with_len}
+use Rattle.cells.specs.declared.Note.{Note}
 
--- the unit u notes the head h and the rank r
-abbrev pub notes : List ℕ → List ℕ → ℕ → ℕ → ℕ → Bool
-notes H R h r u = at H u == h && slice_index R u == r
+-- what a unit notes; past the units nothing does
+abbrev pub note_at : List (Option Note) → ℕ → Option Note
+note_at N u = slice_index_or N u None
 
--- the first number from u on that passes a test, among n of them; u + n where none does
-unfoldable pub seek : (ℕ → Bool) → ℕ → ℕ → ℕ
-seek t zero u = u
-seek t (suc n) u = cond (t u) u (seek t n (suc u))
+-- this notes the head h and the rank r
+abbrev pub notes : ℕ → ℕ → Option Note → Bool
+notes h r None = false
+notes h r (Some n) = n.head == h && n.rank == r
 
--- the unit that notes the head h and the rank r; past the units where none does
-abbrev pub unit_at : List ℕ → List ℕ → ℕ → ℕ → ℕ
-unit_at H R h r = seek (notes H R h r) (length H) 0
+-- the unit that notes the head h and the rank r
+abbrev pub unit_at : List (Option Note) → ℕ → ℕ → Option ℕ
+unit_at N h r = position (notes h r) N
+
+-- how many ranks of the head h are noted, from 0 on
+abbrev pub ranks : List (Option Note) → ℕ → ℕ
+ranks N h = length (take_while (λ r. is_some (unit_at N h r)) (range_with_len 0 64))
 
 -- the lowest unit on no chain
-abbrev pub lowest_free : List ℕ → ℕ
-lowest_free H = seek (λ u. nat_eq (at H u) FREE) (length H) 0
+abbrev pub lowest_free : List (Option Note) → Option ℕ
+lowest_free N = position is_none N
 
--- a unit that was found
-abbrev pub found : ℕ → ℕ → Option ℕ
-found n u = cond (nat_lt u n) (Some u) None
+-- a unit with those behind it, as long as there is one
+abbrev pub followed : Option ℕ → List ℕ → List ℕ
+followed None us = []
+followed (Some u) us = u ∷ us
 
 -- the units of the ranks r, r + 1, .. of the head h, as long as there is one
-unfoldable pub run : ℕ → List ℕ → List ℕ → ℕ → ℕ → List ℕ
-run zero H R h r = []
-run (suc n) H R h r = cond (nat_lt (unit_at H R h r) (length H)) (unit_at H R h r ∷ run n H R h (suc r)) []
+unfoldable pub run : ℕ → List (Option Note) → ℕ → ℕ → List ℕ
+run zero N h r = []
+run (suc n) N h r = followed (unit_at N h r) (run n N h (suc r))
 
--- the units of a head's chain, in the order of their ranks; a head is named by a unit
-unfoldable pub path : List ℕ → List ℕ → ℕ → List ℕ
-path H R h = cond (nat_lt h (length H)) (run (length H) H R h 0) []
+-- the units of a head's chain, in the order of their ranks
+unfoldable pub path : List (Option Note) → ℕ → List ℕ
+path N h = run (length N) N h 0
+
+-- how many units a chain has, and nothing where there is none
+abbrev pub counted : List ℕ → Option ℕ
+counted [] = None
+counted (u ∷ us) = Some (length (u ∷ us))
 
 -- no two units note the same
-abbrev pub Unique : List ℕ → List ℕ → Type 0
-Unique H R = (u v : ℕ) → (at H u ≢ FREE) × (at H u ≡ at H v) × (slice_index R u ≡ slice_index R v) → u ≡ v
+abbrev pub Unique : List (Option Note) → Type 0
+Unique N = (u v : ℕ) (n : Note) → note_at N u ≡ Some n → note_at N v ≡ Some n → u ≡ v
 
 -- no rank is left out
-abbrev pub Down : List ℕ → List ℕ → Type 0
-Down H R = (u : ℕ) → (at H u ≢ FREE) × (0 < slice_index R u) → unit_at H R (at H u) (slice_index R u - 1) < length H
+abbrev pub Down : List (Option Note) → Type 0
+Down N = (u h r : ℕ) → note_at N u ≡ Some (record { head = h; rank = r + 1 }) → is_some (unit_at N h r) ≡ true
 
 -- the first unit of a chain names its head
-abbrev pub Named : List ℕ → List ℕ → Type 0
-Named H R = (u : ℕ) → (at H u ≢ FREE) × (slice_index R u ≡ 0) → at H u ≡ u
+abbrev pub Named : List (Option Note) → Type 0
+Named N = (u h : ℕ) → note_at N u ≡ Some (record { head = h; rank = 0 }) → h ≡ u
 
 -- a free unit u can go to the end of the chain of h: h is a head, or will be, named by u
-abbrev pub joins : List ℕ → List ℕ → ℕ → ℕ → Bool
-joins H R u h = (nat_lt u 64 && (nat_lt h 64 && at H u == FREE)) && (nat_lt 0 (length (path H R h)) || u == h)
+abbrev pub joins : List (Option Note) → ℕ → ℕ → Bool
+joins N u h = (nat_lt u (length N) && is_none (note_at N u)) && (nat_lt 0 (length (path N h)) || u == h)

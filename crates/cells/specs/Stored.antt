@@ -1,30 +1,31 @@
 -- What units that note head and rank mean as a store of chains.
 -- Assumes nothing.
-use Rattle.std.specs.Prelude.{ℕ, ◌+◌, ◌-◌, Bool, cond, ◌&&◌, List, [], ◌∷◌, ◌++◌, length, take, is_some, Some, None, count_by, Option, nat_lt}
-use Rattle.links.specs.Links.{free}
+use Rattle.std.specs.Prelude.{ℕ, ◌+◌, ◌-◌, cond, List, [], ◌∷◌, ◌++◌, length, take, map, is_none, Some, None, count_by, Option, nat_lt}
 use Rattle.store.specs.Meaning.{Store, Notes, bytes_of, zeros, with_chain}
 use Rattle.chain.specs.Units.{View, chains_of}
-use Rattle.cells.specs.Noted.{path}
+use Rattle.cells.specs.declared.Note.{Note}
+use Rattle.cells.specs.Noted.{path, joins}
+
+-- a unit's note as numbers, none where it is on no chain
+abbrev pub numbers : Option Note → List ℕ
+numbers None = []
+numbers (Some n) = n.head ∷ n.rank ∷ []
 
 -- as units of 512 bytes, B being the bytes of all units
-abbrev pub viewed : List ℕ → List ℕ → List ℕ → View
-viewed H R B = record { unit = 512; bytes = B; path = path H R; kept = H ∷ R ∷ []; below = [] }
+abbrev pub viewed : List (Option Note) → List ℕ → View
+viewed N B = record { unit = 512; bytes = B; path = path N; kept = map numbers N; below = [] }
 
 -- as a store, with these notes
-abbrev pub stored : List ℕ → List ℕ → List ℕ → Notes → Store
-stored H R B n = record { unit = 512; chain = chains_of (viewed H R B); room = count_by free H; notes = n }
+abbrev pub stored : List (Option Note) → List ℕ → Notes → Store
+stored N B n = record { unit = 512; chain = chains_of (viewed N B); room = count_by is_none N; notes = n }
 
 -- one unit of zeros more at the end of the chain of h, which may have none yet
 abbrev pub joined_to : Store → ℕ → Store
 joined_to m h = with_chain m h (Some (bytes_of m h ++ zeros m 1)) (m.room - 1)
 
--- one unit of zeros more at the end of the chain of h, where h is a head and there is room
-abbrev pub lengthened : Option (List ℕ) → Store → ℕ → Store
-lengthened None m h = m
-lengthened (Some xs) m h = cond (nat_lt 0 m.room) (joined_to m h) m
-
-abbrev pub given : Store → ℕ → Store
-given m h = lengthened (m.chain h) m h
+-- the unit u at the end of the chain of h, where it can go there
+abbrev pub joined_or_left : List (Option Note) → ℕ → ℕ → Store → Store
+joined_or_left N u h m = cond (joins N u h) (joined_to m h) m
 
 -- one unit less at its end; its last unit takes the head along
 abbrev pub but_last : List ℕ → Option (List ℕ)
@@ -36,7 +37,3 @@ shortened (Some xs) m h = with_chain m h (but_last xs) (m.room + 1)
 
 abbrev pub taken_back : Store → ℕ → Store
 taken_back m h = shortened (m.chain h) m h
-
--- a call of give or take back did something
-abbrev pub gives : Store → ℕ → Bool
-gives m h = is_some (m.chain h) && nat_lt 0 m.room

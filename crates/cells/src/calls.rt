@@ -1,102 +1,89 @@
 //! The calls of the units in memory. Each can be made at any time: what cannot be done is left undone, and the answer
 //! says so.
 
-ghost use Rattle.std.specs.Prelude.{◌≡◌, ℕ, ◌+◌, ◌≤◌, length, is_some, if◌then◌else◌, None, count_by};
-ghost use Rattle.cells.specs.Meant.{meant, within, Starts};
-ghost use Rattle.cells.specs.Noted.{unit_at, lowest_free, found, path, joins};
-ghost use Rattle.cells.specs.Stored.{given, gives, taken_back, joined_to};
-ghost use Rattle.links.specs.Links.{free};
-ghost use Rattle.store.specs.Meaning.{Notes};
+ghost use Rattle.std.specs.Prelude.{◌≡◌, ℕ, length, replicate, is_none, if◌then◌else◌, Some, None, count_by};
+ghost use Rattle.cells.specs.Meant.{meant, Tells, Starts};
+ghost use Rattle.cells.specs.Noted.{unit_at, ranks, lowest_free, path, counted, joins};
+ghost use Rattle.cells.specs.Stored.{taken_back, joined_or_left};
+ghost use Rattle.store.specs.Meaning.{Notes, due_head, due_extend, extended};
 
-use crate::Cells;
-use links::consts::FREE_SECTOR;
-
-const UNITS: u32 = 64;
-
-pub(crate) const UNIT: usize = 512;
+use crate::{Cells, Note, UNIT, UNITS};
+use store::faults::Refusal;
 
 impl Cells {
     // All units on no chain.
     pub fn new() -> Cells
-        ensures { ((n : Notes) → (h : ℕ) → (meant result n).chain h ≡ None) × ((n : Notes) → (meant result n).room ≡ 64) }
+        ensures notes { result.notes ≡ replicate 64 None }
+        ensures chains { (n : Notes) (h : ℕ) → (meant result n).chain h ≡ None }
+        ensures room { (n : Notes) → (meant result n).room ≡ 64 }
     {
         Cells {
-            heads: [FREE_SECTOR; 64],
-            ranks: [0; 64],
-            bytes: [0; 32768],
+            notes: [None; UNITS as usize],
+            bytes: [0; UNITS as usize * UNIT],
         }
     }
 
     // The unit that notes this head and rank.
-    pub(crate) fn find(&self, head: u32, rank: u32) -> Option<u32>
-        ensures { result ≡ found 64 (unit_at self.now.heads self.now.ranks head rank) }
+    pub(crate) fn find(&self, head: u32, rank: u32) -> Option<usize>
+        ensures { result ≡ unit_at self.now.notes head rank }
     {
-        for unit in 0..UNITS {
-            if self.heads[unit as usize] == head && self.ranks[unit as usize] == rank {
-                return Some(unit);
-            }
-        }
-        None
+        self.notes
+            .iter()
+            .position(|note| *note == Some(Note { head, rank }))
     }
 
     // The lowest unit on no chain.
-    fn free_unit(&self) -> Option<u32>
-        ensures { result ≡ found 64 (lowest_free self.now.heads) }
+    fn free_unit(&self) -> Option<usize>
+        ensures { result ≡ lowest_free self.now.notes }
     {
-        for unit in 0..UNITS {
-            if self.heads[unit as usize] == FREE_SECTOR {
-                return Some(unit);
-            }
-        }
-        None
+        self.notes.iter().position(|note| note.is_none())
     }
 
-    // How many units the chain of a head has; 0 where it is no head.
-    pub fn units(&self, head: u32) -> u32
-        ensures { result ≡ length (path self.now.heads self.now.ranks head) }
+    // How many ranks of a head are noted, from 0 on.
+    fn ranks(&self, head: u32) -> u32
+        ensures { result ≡ ranks self.now.notes head }
     {
-        if head >= UNITS {
-            return 0;
-        }
-        for rank in 0..UNITS {
-            if self.find(head, rank).is_none() {
-                return rank;
-            }
-        }
-        UNITS
+        (0..UNITS)
+            .take_while(|rank| self.find(head, *rank).is_some())
+            .count() as u32
+    }
+
+    // How many units the chain of a head has; nothing where it is no head.
+    pub fn units(&self, head: u32) -> Option<u32>
+        ensures { result ≡ counted (path self.now.notes head) }
+    {
+        let count = self.ranks(head);
+        (count > 0).then_some(count)
     }
 
     // How many units are on no chain.
     pub fn room(&self) -> u32
-        ensures { result ≡ count_by free self.now.heads }
+        ensures { result ≡ count_by is_none self.now.notes }
     {
-        let mut room = 0;
-        for unit in 0..UNITS {
-            if self.heads[unit as usize] == FREE_SECTOR {
-                room += 1;
-            }
-        }
-        room
+        self.notes.iter().filter(|note| note.is_none()).count() as u32
     }
 
-    // A free unit goes to the end of a chain, zeroed; a chain begins with the unit that names it. False, and no change,
-    // where that cannot be.
-    fn join(&mut self, unit: u32, head: u32) -> bool
-        ensures told { result ≡ joins self.old.heads self.old.ranks unit head }
-        ensures left { (n : Notes) → meant self.new n ≡ (if result then joined_to (meant self.old n) head else meant self.old n) }
+    // The rank of a unit that goes to the end of a chain: it is free, and a chain begins with the unit that names it.
+    fn next_rank(&self, unit: usize, head: u32) -> Option<u32>
+        ensures { result ≡ (if joins self.now.notes unit head then Some (length (path self.now.notes head)) else None) }
     {
-        if unit >= UNITS || head >= UNITS || self.heads[unit as usize] != FREE_SECTOR {
-            return false;
+        if unit >= self.notes.len() || self.notes[unit].is_some() {
+            return None;
         }
-        let rank = self.units(head);
-        if rank == 0 && unit != head {
-            return false;
-        }
-        let from = unit as usize * UNIT;
-        self.heads[unit as usize] = head;
-        self.ranks[unit as usize] = rank;
-        self.bytes[from..from + UNIT].copy_from_slice(&[0; UNIT]);
-        true
+        let rank = self.ranks(head);
+        (rank > 0 || unit == head as usize).then_some(rank)
+    }
+
+    // A unit goes to the end of a chain, zeroed. Answers the unit; nothing, and no change, where that cannot be.
+    fn join(&mut self, unit: usize, head: u32) -> Option<usize>
+        ensures told { result ≡ (if joins self.old.notes unit head then Some unit else None) }
+        ensures left { (n : Notes) → meant self.new n ≡ joined_or_left self.old.notes unit head (meant self.old n) }
+    {
+        let rank = self.next_rank(unit, head)?;
+        let from = unit * UNIT;
+        self.notes[unit] = Some(Note { head, rank });
+        self.bytes[from..from + UNIT].fill(0);
+        Some(unit)
     }
 
     // A new chain of one unit of zeros, at the lowest free unit, which names it; nothing where no unit is free.
@@ -104,39 +91,30 @@ impl Cells {
         ensures { (n : Notes) → Starts result (meant self.old n) (meant self.new n) }
     {
         let unit = self.free_unit()?;
-        self.join(unit, unit);
-        Some(unit)
+        let head = unit as u32;
+        self.join(unit, head)?;
+        Some(head)
     }
 
-    // One unit of zeros more at the end of a chain; false, and no change, where it is no head or no unit is free.
-    pub fn give(&mut self, head: u32) -> bool
-        ensures told { (n : Notes) → result ≡ gives (meant self.old n) head }
-        ensures left { (n : Notes) → meant self.new n ≡ given (meant self.old n) head }
+    // One unit of zeros more at the end of a chain; no change where it is no head or no unit is free.
+    pub fn give(&mut self, head: u32) -> Result<(), Refusal>
+        ensures told { Tells self.old head (λ m layer. due_extend m layer head 1) result }
+        ensures left { (n : Notes) (layer : ℕ) → meant self.new n ≡ extended (meant self.old n) layer head 1 }
     {
-        if self.units(head) == 0 {
-            return false;
-        }
-        match self.free_unit() {
-            Some(unit) => self.join(unit, head),
-            None => false,
-        }
+        self.units(head).ok_or(Refusal::NotHead)?;
+        let unit = self.free_unit().ok_or(Refusal::NoRoom)?;
+        self.join(unit, head).ok_or(Refusal::NoRoom)?;
+        Ok(())
     }
 
-    // One unit less at the end of a chain, its last unit taking the head along; false where it is no head.
-    pub fn take_back(&mut self, head: u32) -> bool
-        ensures told { (n : Notes) → result ≡ is_some ((meant self.old n).chain head) }
+    // One unit less at the end of a chain, its last unit taking the head along; no change where it is no head.
+    pub fn take_back(&mut self, head: u32) -> Result<(), Refusal>
+        ensures told { Tells self.old head (λ m layer. due_head m layer head) result }
         ensures left { (n : Notes) → meant self.new n ≡ taken_back (meant self.old n) head }
     {
-        let count = self.units(head);
-        if count == 0 {
-            return false;
-        }
-        match self.find(head, count - 1) {
-            Some(unit) => {
-                self.heads[unit as usize] = FREE_SECTOR;
-                true
-            }
-            None => false,
-        }
+        let count = self.units(head).ok_or(Refusal::NotHead)?;
+        let unit = self.find(head, count - 1).ok_or(Refusal::NotHead)?;
+        self.notes[unit] = None;
+        Ok(())
     }
 }

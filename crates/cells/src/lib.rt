@@ -8,19 +8,30 @@ ghost use Rattle.std.specs.Prelude.{◌≡◌, length};
 pub mod calls;
 pub mod copies;
 
-// The head that each unit notes, FREE where it is on no chain; the rank; and the bytes of all units.
+// The size of a unit in bytes, and how many units there are.
+pub const UNIT: usize = 512;
+
+pub const UNITS: u32 = 64;
+
+// What a unit on a chain notes: the head of the chain, and its rank in it.
+#[derive(Clone, Copy, PartialEq, Eq, Debug)]
+pub struct Note {
+    pub head: u32,
+    pub rank: u32,
+}
+
+// What each unit notes, nothing where it is on no chain; and the bytes of all units.
 #[derive(Drop)]
 pub struct Cells {
-    heads: [u32; 64],
-    ranks: [u32; 64],
-    bytes: [u8; 32768],
-    ghost headed: { length heads ≡ 64 },
-    ghost ranked: { length ranks ≡ 64 },
+    notes: [Option<Note>; UNITS as usize],
+    // Kept: an array of its own beside the notes, as the view over which copying is proved is one list of all units' bytes.
+    bytes: [u8; UNITS as usize * UNIT],
+    ghost counted: { length notes ≡ 64 },
     ghost filled: { length bytes ≡ 32768 },
     // No two units note the same.
-    ghost unique: { Unique heads ranks },
+    ghost unique: { Unique notes },
     // No rank is left out.
-    ghost down: { Down heads ranks },
+    ghost down: { Down notes },
     // The first unit of a chain names its head.
-    ghost named: { Named heads ranks },
+    ghost named: { Named notes },
 }

@@ -5,9 +5,9 @@ use Rattle.std.specs.Map.{update}
 use Rattle.std.proofs.lemmas.List.{take-take, take_all, length-take-le}
 use Rattle.std.proofs.lemmas.Map.{update_here}
 use Rattle.std.proofs.lemmas.Bool.{cases_lt, lt-ltb, le-ltb, cond-true}
-use Rattle.store.specs.Meaning.{Store, zeros, with_chain}
+use Rattle.store.specs.Meaning.{Store, zeros, with_chain, extended}
 use Rattle.chain.proofs.Zeros.{chain_same, chain_twice, no_zeros, more-zeros}
-use Rattle.cells.specs.Stored.{given, taken_back, but_last}
+use Rattle.cells.specs.Stored.{taken_back, but_last}
 use Rattle.drawer.specs.Drawn.{times}
 
 -- one step more
@@ -17,18 +17,18 @@ times_more n f m a b e g = let k : n + 1 ≡ suc n = omega arith in rw k (g ∙ 
 pub times_all : (n k : ℕ) (f : Store → Store) (m a : Store) → n ≤ k → k ≤ n → a ≡ times n f m → a ≡ times k f m
 times_all n k f m a i j e = let q : n ≡ k = omega arith in rw q at e
 
-pub times-given : (m : Store) (h : ℕ) (xs : List ℕ) (n : ℕ) → m.chain h ≡ Some xs → n ≤ m.room
-    → times n (λ s. given s h) m ≡ with_chain m h (Some (xs ++ zeros m n)) (m.room - n)
-times-given m h xs zero e l = let z : m.room - 0 ≡ m.room = omega arith in sym (rw z (no_zeros m h xs e))
-times-given m h xs (suc n) e l =
-    ap (λ s. given s h) (times-given m h xs n e (omega arith)) ∙ step
+pub times-extended : (m : Store) (h : ℕ) (xs : List ℕ) (n : ℕ) → m.chain h ≡ Some xs → n ≤ m.room
+    → times n (λ s. extended s 2 h 1) m ≡ with_chain m h (Some (xs ++ zeros m n)) (m.room - n)
+times-extended m h xs zero e l = let z : m.room - 0 ≡ m.room = omega arith in sym (rw z (no_zeros m h xs e))
+times-extended m h xs (suc n) e l =
+    ap (λ s. extended s 2 h 1) (times-extended m h xs n e (omega arith)) ∙ step
   where
-    step : given (with_chain m h (Some (xs ++ zeros m n)) (m.room - n)) h ≡ with_chain m h (Some (xs ++ zeros m (suc n))) (m.room - suc n)
+    step : extended (with_chain m h (Some (xs ++ zeros m n)) (m.room - n)) 2 h 1 ≡ with_chain m h (Some (xs ++ zeros m (suc n))) (m.room - suc n)
     step =
         let here = update_here m.chain h (Some (xs ++ zeros m n)) in
-        let room = lt-ltb 0 (m.room - n) (omega arith) in
+        let room = le-ltb (m.room - n) 1 (omega arith) in
         let less : m.room - n - 1 ≡ m.room - suc n = omega arith in
-        rw (here, room) (more-zeros m h xs n (m.room - n) (m.room - n - 1) ∙ ap (λ r. with_chain m h (Some (xs ++ zeros m (suc n))) r) less)
+        rw (here, room) (rw here at (more-zeros m h xs n (m.room - n) (m.room - n - 1)) ∙ ap (λ r. with_chain m h (Some (xs ++ zeros m (suc n))) r) less)
 
 -- what n units less leave of a chain of k
 abbrev left : List ℕ → ℕ → ℕ → Option (List ℕ)

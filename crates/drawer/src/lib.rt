@@ -2,29 +2,25 @@
 
 #![tactic(auto)]
 
-ghost use Rattle.std.specs.Prelude.{◌≡◌, ℕ, ◌+◌, length, None, nat_lt};
+ghost use Rattle.std.proofs.Common.{rules};
+ghost use Rattle.std.specs.Prelude.{◌≡◌, ℕ, ◌+◌, length};
 ghost use Rattle.cells.proofs.Paths.{sound_of};
 ghost use Rattle.cells.proofs.Stores.{lawful as lawfully};
-ghost use Rattle.cells.specs.Stored.{given, taken_back};
-ghost use Rattle.drawer.specs.Drawn.{noted, drawn, fresh, times};
-ghost use Rattle.store.specs.Meaning.{moved};
+ghost use Rattle.cells.specs.Stored.{taken_back};
+ghost use Rattle.drawer.specs.Drawn.{noted, drawn, fresh, times, Steps};
+ghost use Rattle.store.specs.Meaning.{Store, extended, due_head, units_of};
+ghost use Rattle.store.specs.Refusals.{told, answer};
 
-use cells::Cells;
+use crate::table::Table;
+use cells::{Cells, UNIT, UNITS};
 use links::consts::END_OF_CHAIN;
-use store::entries::{Entry, OBJ_TYPE_ROOT, OBJ_TYPE_STREAM, Words};
+use store::entries::{Entry, Words};
 use store::faults::{Refusal, StoreFault};
 use store::stores::{ChainStore, Host};
 
+mod table;
 #[cfg(test)]
 mod tests;
-
-const UNIT: u32 = 512;
-
-// The directory entries.
-#[derive(Drop)]
-pub struct Table {
-    entries: [Entry; 16],
-}
 
 // Units that note head and rank, entries, and the header words.
 #[derive(Drop)]
@@ -34,57 +30,14 @@ pub struct Drawer {
     words: Words,
 }
 
-impl Table {
-    // How many entries there are.
-    fn len(&self) -> u32
-        ensures told { result ≡ length self.now.entries }
-        ensures sixteen { result ≡ 16 }
-    {
-        let all = &self.entries[..];
-        all.len() as u32
-    }
-
-    // One entry is handed to be altered, its start and its length; the others keep their values. False where there is
-    // no such entry.
-    fn alter(&mut self, id: u32, start: u32, len: u32) -> bool
-        ensures told { result ≡ nat_lt id (length self.old.entries) }
-        ensures left { self.new.entries ≡ moved self.old.entries id start len }
-    {
-        if id >= self.len() {
-            return false;
-        }
-        let entry = &mut self.entries[id as usize];
-        entry.start = start;
-        entry.length = len as u64;
-        true
-    }
-}
-
-// A refusal of the drawer.
-fn fault(refusal: Refusal, place: u32) -> StoreFault
-    ensures { result ≡ record { refusal = refusal; layer = 2; place = place } }
-{
-    StoreFault {
-        refusal,
-        layer: <Drawer as ChainStore>::LAYER,
-        place,
-    }
-}
-
 impl Drawer {
     // A drawer with no chain: entry 0 is the root, the others are streams, and all are empty.
     pub fn new() -> Drawer
         ensures { drawn result ≡ fresh }
     {
-        let mut entries = [Entry {
-            kind: OBJ_TYPE_STREAM,
-            start: END_OF_CHAIN,
-            length: 0,
-        }; 16];
-        entries[0].kind = OBJ_TYPE_ROOT;
         Drawer {
             cells: Cells::new(),
-            table: Table { entries },
+            table: Table::new(),
             words: Words {
                 start: END_OF_CHAIN,
                 count: 0,
@@ -92,29 +45,44 @@ impl Drawer {
         }
     }
 
-    // So many units of zeros more at the end of a chain, as far as there is room.
-    fn grow(&mut self, head: u32, count: u32)
-        ensures { drawn self.new ≡ times count (λ m. given m head) (drawn self.old) }
+    // How many units the chain of a head has.
+    fn count(&self, head: u32) -> Result<u32, StoreFault>
+        ensures { told result ≡ answer (due_head (drawn self.now) 2 head) (units_of (drawn self.now) head) }
+    {
+        self.cells
+            .units(head)
+            .ok_or(Refusal::NotHead.at(Self::LAYER, head))
+    }
+
+    // A step on the units, taken so many times.
+    fn repeat<F: Fn(&mut Cells) -> Result<(), Refusal>>(&mut self, count: u32, step: F)
+        requires { F.IsAlwaysCallable step }
+        ensures { (f : Store → Store) → Steps (F.post step) f → drawn self.new ≡ times count f (drawn self.old) }
     {
         for _ in 0..count {
-            self.cells.give(head);
+            step(&mut self.cells).ok();
         }
+    }
+
+    // So many units of zeros more at the end of a chain, as far as there is room.
+    fn grow(&mut self, head: u32, count: u32)
+        ensures { drawn self.new ≡ times count (λ m. extended m 2 head 1) (drawn self.old) }
+    {
+        self.repeat(count, |cells| cells.give(head));
     }
 
     // So many units less at the end of a chain, as far as there are some.
     fn shrink(&mut self, head: u32, count: u32)
         ensures { drawn self.new ≡ times count (λ m. taken_back m head) (drawn self.old) }
     {
-        for _ in 0..count {
-            self.cells.take_back(head);
-        }
+        self.repeat(count, |cells| cells.take_back(head));
     }
 }
 
 impl ChainStore for Drawer {
     const LAYER: u8 = 2;
 
-    const MOST: u32 = 64;
+    const MOST: u32 = UNITS;
 
     ghost meaning = { drawn };
 
@@ -122,12 +90,12 @@ impl ChainStore for Drawer {
 
     ghost most = { 64 };
 
-    ghost lawful = { λ d. lawfully d.cells.heads d.cells.ranks (sound_of d.cells) d.cells.bytes d.cells.filled (noted d) };
+    ghost lawful = { λ d. lawfully d.cells.notes (sound_of d.cells) d.cells.bytes d.cells.filled (noted d) };
 
     ghost sound = { λ d. Unit {0} };
 
     fn unit(&mut self) -> u32 {
-        UNIT
+        UNIT as u32
     }
 
     fn room(&mut self) -> u32 {
@@ -135,79 +103,58 @@ impl ChainStore for Drawer {
     }
 
     fn units(&mut self, head: u32) -> Result<u32, StoreFault> {
-        let count = self.cells.units(head);
-        if count == 0 {
-            return Err(fault(Refusal::NotHead, head));
-        }
-        Ok(count)
+        self.count(head)
     }
 
     fn read(&mut self, head: u32, at: u64, out: &mut [u8]) -> Result<(), StoreFault> {
-        if self.cells.units(head) == 0 {
-            return Err(fault(Refusal::NotHead, head));
-        }
-        if self.cells.read(head, at, out) {
-            Ok(())
-        } else {
-            Err(fault(Refusal::PastEnd, head))
-        }
+        self.count(head)?;
+        self.cells
+            .read(head, at, out)
+            .map_err(|refusal| refusal.at(Self::LAYER, head))
     }
 
     fn write(&mut self, head: u32, at: u64, src: &[u8]) -> Result<(), StoreFault> {
-        if self.cells.units(head) == 0 {
-            return Err(fault(Refusal::NotHead, head));
-        }
-        if self.cells.write(head, at, src) {
-            Ok(())
-        } else {
-            Err(fault(Refusal::PastEnd, head))
-        }
+        self.count(head)?;
+        self.cells
+            .write(head, at, src)
+            .map_err(|refusal| refusal.at(Self::LAYER, head))
     }
 
     fn begin(&mut self, count: u32) -> Result<u32, StoreFault> {
         if count == 0 {
-            return Err(fault(Refusal::BadCount, 0));
+            return Err(Refusal::BadCount.at(Self::LAYER, 0));
         }
         if count > self.cells.room() {
-            return Err(fault(Refusal::NoRoom, 0));
+            return Err(Refusal::NoRoom.at(Self::LAYER, 0));
         }
-        match self.cells.start() {
-            Some(head) => {
-                self.grow(head, count - 1);
-                Ok(head)
-            }
-            None => Err(fault(Refusal::NoRoom, 0)),
-        }
+        let head = self
+            .cells
+            .start()
+            .ok_or(Refusal::NoRoom.at(Self::LAYER, 0))?;
+        self.grow(head, count - 1);
+        Ok(head)
     }
 
     fn extend(&mut self, head: u32, count: u32) -> Result<(), StoreFault> {
-        if self.cells.units(head) == 0 {
-            return Err(fault(Refusal::NotHead, head));
-        }
+        self.count(head)?;
         if count > self.cells.room() {
-            return Err(fault(Refusal::NoRoom, head));
+            return Err(Refusal::NoRoom.at(Self::LAYER, head));
         }
         self.grow(head, count);
         Ok(())
     }
 
     fn cut(&mut self, head: u32, count: u32) -> Result<(), StoreFault> {
-        let units = self.cells.units(head);
-        if units == 0 {
-            return Err(fault(Refusal::NotHead, head));
-        }
+        let units = self.count(head)?;
         if count == 0 || count > units {
-            return Err(fault(Refusal::BadCount, head));
+            return Err(Refusal::BadCount.at(Self::LAYER, head));
         }
         self.shrink(head, units - count);
         Ok(())
     }
 
     fn free(&mut self, head: u32) -> Result<(), StoreFault> {
-        let units = self.cells.units(head);
-        if units == 0 {
-            return Err(fault(Refusal::NotHead, head));
-        }
+        let units = self.count(head)?;
         self.shrink(head, units);
         Ok(())
     }
@@ -219,25 +166,24 @@ impl Host for Drawer {
     }
 
     fn entry(&mut self, id: u32) -> Result<Entry, StoreFault> {
-        if id >= self.table.len() {
-            return Err(fault(Refusal::NoEntry, id));
-        }
-        Ok(self.table.entries[id as usize])
+        self.table
+            .get(id)
+            .ok_or(Refusal::NoEntry.at(Self::LAYER, id))
     }
 
     fn set_entry(&mut self, id: u32, start: u32, len: u32) -> Result<(), StoreFault> {
-        if self.table.alter(id, start, len) {
-            Ok(())
-        } else {
-            Err(fault(Refusal::NoEntry, id))
-        }
+        self.table
+            .alter(id, start, len)
+            .map_err(|refusal| refusal.at(Self::LAYER, id))
     }
 
     fn words(&mut self) -> Words {
         self.words
     }
 
-    fn set_words(&mut self, start: u32, count: u32) {
-        self.words = Words { start, count };
+    fn set_words(&mut self, words: Words) {
+        self.words = words;
     }
+
+    ghost hosted = { λ d. Prim.search (rules, d.table.sixteen) };
 }

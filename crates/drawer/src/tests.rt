@@ -2,33 +2,17 @@
 
 use crate::Drawer;
 use links::consts::END_OF_CHAIN;
-use store::entries::{Entry, OBJ_TYPE_ROOT, OBJ_TYPE_STREAM, Words};
-use store::faults::{Refusal, StoreFault};
+use store::entries::{Entry, ObjType, Words};
+use store::faults::Refusal;
 use store::stores::{ChainStore, Host};
-
-fn refused(refusal: Refusal, place: u32) -> StoreFault {
-    StoreFault {
-        refusal,
-        layer: 2,
-        place,
-    }
-}
-
-fn empty(kind: u8) -> Entry {
-    Entry {
-        kind,
-        start: END_OF_CHAIN,
-        length: 0,
-    }
-}
 
 #[test]
 fn fresh_entries_and_words(rt: HostRuntime) {
     let mut d = Drawer::new();
     assert_eq!(rt; d.entries(), 16);
-    assert_eq!(rt; d.entry(0), Ok(empty(OBJ_TYPE_ROOT)));
-    assert_eq!(rt; d.entry(1), Ok(empty(OBJ_TYPE_STREAM)));
-    assert_eq!(rt; d.entry(15), Ok(empty(OBJ_TYPE_STREAM)));
+    assert_eq!(rt; d.entry(0), Ok(Entry::empty(ObjType::Root)));
+    assert_eq!(rt; d.entry(1), Ok(Entry::empty(ObjType::Stream)));
+    assert_eq!(rt; d.entry(15), Ok(Entry::empty(ObjType::Stream)));
     assert_eq!(rt;
         d.words(),
         Words {
@@ -41,10 +25,10 @@ fn fresh_entries_and_words(rt: HostRuntime) {
 #[test]
 fn an_id_past_the_entries(rt: HostRuntime) {
     let mut d = Drawer::new();
-    assert_eq!(rt; d.entry(16), Err(refused(Refusal::NoEntry, 16)));
+    assert_eq!(rt; d.entry(16), Err(Refusal::NoEntry.at(2, 16)));
     assert_eq!(rt;
         d.set_entry(0xffff_ffff, 1, 1),
-        Err(refused(Refusal::NoEntry, 0xffff_ffff))
+        Err(Refusal::NoEntry.at(2, 0xffff_ffff))
     );
 }
 
@@ -55,14 +39,14 @@ fn one_entry_is_set_and_keeps_its_kind(rt: HostRuntime) {
     assert_eq!(rt;
         d.entry(0),
         Ok(Entry {
-            kind: OBJ_TYPE_ROOT,
+            kind: ObjType::Root,
             start: 3,
             length: 64,
         })
     );
     assert_eq!(rt;
         d.entry(1),
-        Ok(empty(OBJ_TYPE_STREAM)),
+        Ok(Entry::empty(ObjType::Stream)),
         "the next one is as it was"
     );
 }
@@ -70,7 +54,7 @@ fn one_entry_is_set_and_keeps_its_kind(rt: HostRuntime) {
 #[test]
 fn words_are_set(rt: HostRuntime) {
     let mut d = Drawer::new();
-    d.set_words(7, 2);
+    d.set_words(Words { start: 7, count: 2 });
     assert_eq!(rt; d.words(), Words { start: 7, count: 2 });
 }
 
@@ -91,10 +75,7 @@ fn a_refused_read_leaves_the_buffer(rt: HostRuntime) {
     let mut d = Drawer::new();
     assert_eq!(rt; d.begin(1), Ok(0));
     let mut bytes = [5, 6];
-    assert_eq!(rt;
-        d.read(0, 511, &mut bytes),
-        Err(refused(Refusal::PastEnd, 0))
-    );
+    assert_eq!(rt; d.read(0, 511, &mut bytes), Err(Refusal::PastEnd.at(2, 0)));
     assert_eq!(rt; bytes[0], 5);
     assert_eq!(rt; bytes[1], 6);
 }

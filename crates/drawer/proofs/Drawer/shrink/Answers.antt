@@ -1,11 +1,7 @@
 -- Assumes nothing.
-use Rattle.std.proofs.Common.{arith}
-use Rattle.drawer.specs.Drawn.{noted}
-use Rattle.drawer.proofs.Times.{times_more, times_all}
+use Rattle.std.proofs.Common.{rules}
+use Rattle.cells.specs.Stored.{taken_back}
 use Rattle.drawer.proofs.Drawer.shrink.Goals as goal
 
-pub loop-preserved : goal.loop-preserved
-loop-preserved c = times_more c.loop.counter _ _ _ _ c.loop.invariant (c.take_back.ensures.left (noted c.loop.self))
-
 pub returns : goal.returns
-returns c = times_all c.loop.counter c.args.count _ _ _ (omega arith) (omega arith) c.loop.invariant
+returns c = c.repeat.ensures (λ m. taken_back m c.args.head) (λ p q r e n. search rules)

@@ -1,29 +1,18 @@
 -- Assumes nothing.
-use Rattle.std.proofs.Common.{◌+◌, length, refl, ◌∙◌}
+use Rattle.std.proofs.Common.{◌+◌, length, ap, ◌∙◌, rules}
+use Rattle.store.specs.Refusals.{answer}
 use Rattle.drawer.specs.Drawn.{noted, drawn}
-use Rattle.drawer.proofs.Told.{counted, copy_yes, copy_no, accepted, accepted_left, refused_told, refused_left}
+use Rattle.drawer.proofs.Told.{told_mapped, same_due}
 use Rattle.drawer.proofs.DrawerChainStore.read.Goals as goal
 
-pub returns-then-read : goal.returns-then-read
-returns-then-read c =
+pub returns-clause-told : goal.returns-clause-told
+returns-clause-told c =
     let d = c.args.self.now in
-    let due = copy_yes (drawn d) c.args.head _ refl (counted d c.args.head _ c.units.ensures) c.if-units-eq0.false (c.args.at + length c.args.out.now)
-    (c.if-read.ensures.told (noted d)) in
-    record {
-      told = accepted _ due;
-      out = accepted_left _ _ _ _ due (c.if-read.ensures.out (noted d));
-      left = c.read.ensures.left (noted d);
-      sound = λ u. u;
-    }
+    told_mapped _ _ _ _ c.map_err.ensures.cases (λ e f q. search (rules, q)) ∙ c.read.ensures.told (noted d) 2
+    ∙ ap (λ o. answer o tt) (same_due (drawn d) c.args.head _ (c.args.at + length c.args.out.now) c.in_ok-count.ensures)
 
-pub returns-else-read : goal.returns-else-read
-returns-else-read c =
-    let d = c.args.self.now in
-    let due = copy_no (drawn d) c.args.head _ refl (counted d c.args.head _ c.units.ensures) c.if-units-eq0.false (c.args.at + length c.args.out.now)
-    (c.if-read.ensures.told (noted d)) in
-    record {
-      told = refused_told _ _ _ _ c.fault-else-read.ensures due;
-      out = c.if-read.ensures.out (noted d) ∙ refused_left _ _ _ _ due;
-      left = c.read.ensures.left (noted d);
-      sound = λ u. u;
-    }
+pub returns-clause-out : goal.returns-clause-out
+returns-clause-out c = c.read.ensures.out (noted c.args.self.now) 2
+
+pub returns-clause-left : goal.returns-clause-left
+returns-clause-left c = c.read.ensures.left (noted c.args.self.now)
