@@ -55,7 +55,7 @@ module _ (most : ℕ) (m : Store) (ok : Lawful most m) (h : Hosted m) (L : List 
 
     -- a place can be taken
     pub take_none : None ≡ cond (has_room L S) (Some (place_after L S)) None → ⊥
-    take_none e = let q : None ≡ Some (place_after L S) = rw there.room at e in let z : ◌≡◌ {A = ℕ} 0 1 = cc in omega arith
+    take_none e = let q : None ≡ Some (place_after L S) = rw there.room at e in cc
 
     pub place_is : (p : ℕ) → Some p ≡ cond (has_room L S) (Some (place_after L S)) None → p ≡ place_after L S
     place_is p e = let q : Some p ≡ Some (place_after L S) = rw there.room at e in cc
@@ -92,7 +92,7 @@ module _ (most : ℕ) (m : Store) (ok : Lawful most m) (h : Hosted m) (L : List 
       can_join = and_from _ _ (eq-eqb (at L last) END end) there.room
 
       pub join_none : None ≡ cond (joinable L S last) (Some (place_after L S)) None → ⊥
-      join_none e = let q : None ≡ Some (place_after L S) = rw can_join at e in let z : ◌≡◌ {A = ℕ} 0 1 = cc in omega arith
+      join_none e = let q : None ≡ Some (place_after L S) = rw can_join at e in cc
 
       pub joined_is : (p : ℕ) → Some p ≡ cond (joinable L S last) (Some (place_after L S)) None → p ≡ place_after L S
       joined_is p e = let q : Some p ≡ Some (place_after L S) = rw can_join at e in cc
@@ -116,10 +116,6 @@ module _ (most : ℕ) (m : Store) (ok : Lawful most m) (h : Hosted m) (L : List 
           let w = web_of m L S in
           subst (λ v. Behind w v last p) (sym made.web) (subst (λ q. Behind w (put_mini w last) last q) (sym ep) (put_behind m L S few kept place_bytes ready last end))
 
--- a host that was only asked still bears the table out
-pub sound_same : (m s : Store) (o : Bool) (t : ℕ) → s ≡ m → (o ≡ true) × Hosted m × Borne m t → (o ≡ true) × Hosted s × Borne s t
-sound_same m s o t e h = rw e h
-
 -- what a cut and a giving back did
 module _ (m : Store) (L S : List ℕ) (few : length L ≤ 4096) (kept : Kept L S) (s : Store) (L' S' : List ℕ) (p : ℕ) where
   pub cut_ended : Made m L s L' S' (ended_mini (web_of m L S) p) → Ended (web_of m L S) (web_of s L' S') p
@@ -131,9 +127,7 @@ module _ (m : Store) (L S : List ℕ) (few : length L ≤ 4096) (kept : Kept L S
 -- a link that points on can be cut off
 pub cut_none : (x : ℕ) → x < POINTERS → None ≡ cond (onward x) (Some x) None → ⊥
 cut_none x l e =
-    let q : None ≡ Some x = rw (or_left (ltb x POINTERS) (eqb x END) (lt-ltb x POINTERS l)) at e in
-    let z : ◌≡◌ {A = ℕ} 0 1 = cc in
-    omega arith
+    let q : None ≡ Some x = rw (or_left (ltb x POINTERS) (eqb x END) (lt-ltb x POINTERS l)) at e in cc
 
 module _ (x : ℕ) (l : x < POINTERS) where
   points : onward x ≡ true

@@ -8,7 +8,7 @@ use Rattle.links.proofs.Counts.{inside}
 use Rattle.links.proofs.Lookups.{some_link, no_link}
 use Rattle.links.proofs.Paths.{used}
 use Rattle.store.specs.Refusals.{unless}
-use Rattle.store.specs.Meaning.{Store, Hosted, bytes_of, laid, with_chain, headed, refuse, due_copy, read_into, wrote}
+use Rattle.store.specs.Meaning.{Store, bytes_of, laid, with_chain, headed, refuse, due_copy, read_into, wrote}
 use Rattle.chain.specs.Units.{cell, put}
 use Rattle.chain.specs.Webs.{Web, Woven, path_of, viewed}
 use Rattle.chain.proofs.Joined.{in_get_d}
@@ -16,7 +16,7 @@ use Rattle.chain.proofs.Laid.{length-laid, slice_cell}
 use Rattle.chain.proofs.Releases.{path_head}
 use Rattle.chain.proofs.Weaves.{next_place}
 use Rattle.mini.specs.Mini.{stream_at, Borne, web_of}
-use Rattle.mini.proofs.States.{some_chain, wrote_yes, hosted_same}
+use Rattle.mini.proofs.States.{some_chain, wrote_yes}
 use Rattle.mini.proofs.Swaps.{bytes_here, borne_same, sealed_stream}
 
 -- the link at a place of a chain is there, and is the next place
@@ -62,6 +62,3 @@ module _ (m : Store) (layer p i : ℕ) (place : p * 64 + 64 ≤ length (bytes_of
 
     pub write_borne : (s : Store) (t : ℕ) → s ≡ wrote m layer (stream_at m) (p * 64 + i) src → Borne m t → Borne s t
     write_borne s t e b = rw (e, is) (borne_same m (stream_at m) _ (inl refl) same t b)
-
-    pub write_hosted : (s : Store) → s ≡ wrote m layer (stream_at m) (p * 64 + i) src → Hosted m → Hosted s
-    write_hosted s e h = rw (e, is) (hosted_same m _ h refl refl)

@@ -1,32 +1,14 @@
 -- What a host tells of mini stream and MiniFAT, and what follows where it bears a table out.
 -- Assumes nothing.
-use Rattle.std.proofs.Common.{◌≡◌, ℕ, ◌*◌, ◌/◌, ◌^◌, ◌<◌, ◌≤◌, Bool, true, false, cond, not, ◌&&◌, ◌||◌, eqb, ◌≢◌, ◌⊎◌, List, [], ◌∷◌, length, get_or, Some, None, Ok, Err, Option, unwrap_or, sym, refl, ap, ◌∙◌, inl, inr, ⊎_elim, mul-le-mul, zero-mul, arith}
+use Rattle.std.proofs.Common.{◌≡◌, ℕ, ◌*◌, ◌/◌, ◌^◌, ◌<◌, ◌≤◌, Bool, true, false, cond, not, ◌&&◌, ◌||◌, eqb, ◌≢◌, ◌⊎◌, List, [], ◌∷◌, length, Some, None, Option, unwrap_or, sym, refl, ap, ◌∙◌, inl, inr, ⊎_elim, mul-le-mul, zero-mul, arith}
 use native.Mathlib.Nat.{zero-div}
-use Rattle.std.specs.List.{slice_get}
 use Rattle.std.specs.Option.{option_map}
 use Rattle.std.proofs.lemmas.Bool.{and_parts, and_from, or_cases, or_left, or_right, not-true, eqb-true, eqb-false, eq-eqb, ne_eqb, leb-true, le-leb}
 use Rattle.links.specs.Links.{END}
-use Rattle.store.specs.declared.entries.Entry.{Entry}
-use Rattle.rooms.specs.Rooms.{Ground}
-use Rattle.store.specs.Refusals.{Refused}
-use Rattle.store.specs.Meaning.{Store, Lawful, bytes_of, units_of, entry_or, entry_of}
+use Rattle.rooms.specs.declared.Ground.{Ground}
+use Rattle.store.specs.Meaning.{Store, Lawful, bytes_of, units_of}
 use Rattle.mini.specs.Mini.{root_of, stream_at, fat_at, count_of, asked_of, fitting, ground_of, grounded, ground_if, Present, Borne}
 use Rattle.mini.specs.declared.Asked.{Asked}
-
--- the root entry, as it is told
-entry_some : (es : List Entry) (layer : ℕ) (e d : Entry) → Ok e ≡ entry_or (slice_get es 0) layer 0 → e ≡ get_or es 0 d
-entry_some [] layer e d h = absurd (let z : ◌≡◌ {A = ℕ} 0 1 = cc in omega arith)
-entry_some (x ∷ es) layer e d h = cc
-
-entry_none : (es : List Entry) (layer : ℕ) (f : Refused) (d : Entry) → Err f ≡ entry_or (slice_get es 0) layer 0 → d ≡ get_or es 0 d
-entry_none [] layer f d h = refl
-entry_none (x ∷ es) layer f d h = absurd (let z : ◌≡◌ {A = ℕ} 0 1 = cc in omega arith)
-
-pub root_some : (s : Store) (layer : ℕ) (e : Entry) → Ok e ≡ entry_of s layer 0 → e ≡ root_of s
-root_some s layer e h = entry_some s.notes.entries layer e _ h
-
-pub root_none : (s : Store) (layer : ℕ) (f : Refused) → Err f ≡ entry_of s layer 0 → record { kind = 0; start = 0xfffffffe; length = 0 } ≡ root_of s
-root_none s layer f h = entry_none s.notes.entries layer f _ h
 
 -- the sectors of a chain, where they are told
 module _ (most : ℕ) (s : Store) (ok : Lawful most s) where
@@ -37,6 +19,12 @@ module _ (most : ℕ) (s : Store) (ok : Lawful most s) where
       go : (o : Option (List ℕ)) → s.chain END ≡ o → o ≡ None
       go None e = refl
       go (Some xs) e = absurd (omega (arith, (ok.chains END xs e).head))
+
+  pub end_bytes : (h : ℕ) → h ≡ END → bytes_of s h ≡ []
+  end_bytes h e = ap (λ o. unwrap_or o []) (ap s.chain e ∙ end_none)
+
+  pub end_units : (h : ℕ) → h ≡ END → units_of s h ≡ 0
+  end_units h e = ap (λ xs. length xs / s.unit) (end_bytes h e) ∙ zero-div s.unit
 
   -- a chain's bytes are its units
   pub whole_units : (h : ℕ) → units_of s h * s.unit ≡ length (bytes_of s h)
@@ -54,15 +42,15 @@ module _ (most : ℕ) (s : Store) (ok : Lawful most s) where
   count_lies h none n e = go (none && eqb h END) refl e
     where
       some : (o : Option (List ℕ)) → s.chain h ≡ o → option_map (λ xs. length xs / s.unit) o ≡ Some n → Lies h none n
-      some None p q = absurd (let z : ◌≡◌ {A = ℕ} 0 1 = cc in omega arith)
+      some None p q = cc
       some (Some xs) p q = let r : length xs / s.unit ≡ n = cc in record { units = sym r ∙ ap (λ o. length (unwrap_or o []) / s.unit) (sym p); there = inr (xs, p) }
 
       go : (b : Bool) → (none && eqb h END) ≡ b → cond b (Some 0) (option_map (λ xs. length xs / s.unit) (s.chain h)) ≡ Some n → Lies h none n
       go true p q =
           let r = and_parts none (eqb h END) p in
           let k : h ≡ END = eqb-true h END r.1 in
-          let z : n ≡ 0 = cc in
-          record { units = z ∙ sym (ap (λ o. length (unwrap_or o []) / s.unit) (ap s.chain k ∙ end_none) ∙ zero-div s.unit); there = inl (r.0, k) }
+          let u = end_units h k in
+          record { units = cc; there = inl (r.0, k) }
       go false p q = some (s.chain h) refl q
 
   -- no chain has more units than a store, nor more bytes
@@ -102,11 +90,11 @@ module _ (most : ℕ) (s : Store) (ok : Lawful most s) where
       last : (m f : ℕ) (b : Bool) → Lies (stream_at s) (eqb (root_of s).length 0) m → Lies (fat_at s) (eqb s.notes.words.count 0) f
           → fitting (root_of s) s.notes.words s.unit m f t ≡ b → cond b (Some (ground_of s t)) None ≡ Some g → Borne s t × (g ≡ ground_of s t)
       last m f true lm lf p q = (borne_fitting m f t lm lf p, cc)
-      last m f false lm lf p q = absurd (let z : ◌≡◌ {A = ℕ} 0 1 = cc in omega arith)
+      last m f false lm lf p q = cc
 
       go : (o p : Option ℕ) → (asked_of s).minis ≡ o → (asked_of s).fats ≡ p → grounded s o p t ≡ Some g → Borne s t × (g ≡ ground_of s t)
-      go None p a b e = absurd (let z : ◌≡◌ {A = ℕ} 0 1 = cc in omega arith)
-      go (Some m) None a b e = absurd (let z : ◌≡◌ {A = ℕ} 0 1 = cc in omega arith)
+      go None p a b e = cc
+      go (Some m) None a b e = cc
       go (Some m) (Some f) a b e =
           last m f (fitting (root_of s) s.notes.words s.unit m f t) (count_lies (stream_at s) (eqb (root_of s).length 0) m a) (count_lies (fat_at s) (eqb s.notes.words.count 0) f b) refl e
 
@@ -115,7 +103,7 @@ module _ (most : ℕ) (s : Store) (ok : Lawful most s) where
   count_there h n (inr (xs, e)) = go (eqb n 0 && eqb h END) refl
     where
       go : (b : Bool) → (eqb n 0 && eqb h END) ≡ b → cond b (Some 0) (option_map (λ xs. length xs / s.unit) (s.chain h)) ≡ Some (units_of s h)
-      go true p = let k : h ≡ END = eqb-true h END (and_parts _ _ p).1 in absurd (let q : Some xs ≡ None = sym e ∙ (ap s.chain k ∙ end_none) in let z : ◌≡◌ {A = ℕ} 0 1 = cc in omega arith)
+      go true p = let k : h ≡ END = eqb-true h END (and_parts _ _ p).1 in let q : Some xs ≡ None = sym e ∙ (ap s.chain k ∙ end_none) in cc
       go false p = rw e refl
 
   -- and where the host bears the table out, they are told
@@ -137,20 +125,7 @@ module _ (most : ℕ) (s : Store) (ok : Lawful most s) where
     lies_f : Lies (fat_at s) (eqb s.notes.words.count 0) f
     lies_f = count_lies _ _ f (sym (pf ∙ ap (λ x. x.fats) is))
 
-    -- the figures as the code puts them together
-    pub ground_yes : fitting a.root a.words a.unit m f t ≡ true
-        → Some (record { unit = a.unit; links = t; root = a.root.length / 64; fats = f; minis = m; spare = a.room }) ≡ ground_if s t
-    ground_yes h =
-        let b = borne_fitting m f t lies_m lies_f (sym (λ i. fitting (is i).root (is i).words (is i).unit m f t) ∙ h) in
-        (λ i. Some (record { unit = (is i).unit; links = t; root = (is i).root.length / 64; fats = lies_f.units i; minis = lies_m.units i; spare = (is i).room })) ∙ sym (borne_told t b)
-
-    pub ground_no : fitting a.root a.words a.unit m f t ≡ false → None ≡ ground_if s t
-    ground_no h =
-        let p = sym (pm ∙ ap (λ x. x.minis) is) in
-        let q = sym (pf ∙ ap (λ x. x.fats) is) in
-        let k : fitting (root_of s) s.notes.words s.unit m f t ≡ false = sym (λ i. fitting (is i).root (is i).words (is i).unit m f t) ∙ h in
-        rw (p, q, k) refl
-
+    -- the root length in mini sectors fits 32 bits
     pub ground_small : fitting a.root a.words a.unit m f t ≡ true → a.root.length / 64 < 2 ^ 32
     ground_small h =
         let b = borne_fitting m f t lies_m lies_f (sym (λ i. fitting (is i).root (is i).words (is i).unit m f t) ∙ h) in

@@ -3,7 +3,8 @@
 use Rattle.std.proofs.Common.{◌≡◌, ℕ, ◌+◌, ◌-◌, ◌*◌, ◌/◌, ◌<◌, ◌≤◌, ◌⊎◌, inl, inr, ⊎_elim, arith}
 use Rattle.std.proofs.lemmas.Bool.{cases_lt}
 use Rattle.store.specs.Meaning.{Store, Hosted, Lawful}
-use Rattle.rooms.specs.Rooms.{Ground, up, need, growth, taller}
+use Rattle.rooms.specs.declared.Ground.{Ground}
+use Rattle.rooms.specs.Rooms.{up, need, growth, taller}
 use Rattle.rooms.proofs.Rooms.{Fair, fits_parts, fits_from, fits_down, growth_passes, largest_most, taller_less}
 use Rattle.mini.specs.Mini.{stream_at, fat_at, ground_of, Borne, dry}
 use Rattle.mini.proofs.Figures.{whole_units}

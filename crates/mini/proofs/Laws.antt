@@ -11,7 +11,8 @@ use Rattle.store.specs.Meaning.{Store, Lawful, Chain}
 use Rattle.chain.specs.Units.{Whole}
 use Rattle.chain.specs.Webs.{Woven, stored, viewed}
 use Rattle.chain.proofs.Weaves.{some_told, none_told, units_within, woven_whole}
-use Rattle.rooms.specs.Rooms.{Ground, growth}
+use Rattle.rooms.specs.declared.Ground.{Ground}
+use Rattle.rooms.specs.Rooms.{growth}
 use Rattle.rooms.proofs.Rooms.{growth_passes, fits_parts}
 use Rattle.mini.specs.Mini.{ground_of, ground_if, Borne, web_of, shut_of, meant_by, mini}
 use Rattle.mini.proofs.Figures.{told_borne}
@@ -30,7 +31,7 @@ shut_lawful s = record {
   unit = omega arith;
   small = omega arith;
   few = omega arith;
-  chains = λ h xs e. absurd (let z : ◌≡◌ {A = ℕ} 0 1 = cc in omega arith);
+  chains = λ h xs e. cc;
   within = λ hs a. omega (arith, no_units hs);
 }
 
@@ -42,7 +43,7 @@ module _ (s : Store) (L S : List ℕ) (few : length L ≤ 4096) (kept : Kept L S
       ok = mini_woven s L S few kept b
 
       go : (o : Option (List ℕ)) → chain_of L h ≡ o → Chain 64 h xs
-      go None n = absurd (let q = none_told (web_of s L S) ok h n in let z : ◌≡◌ {A = ℕ} 0 1 = cc in omega arith)
+      go None n = cc (none_told (web_of s L S) ok h n)
       go (Some ps) n =
           let c = some_told (web_of s L S) ok (omega arith) h ps n in
           let x : length xs ≡ length ps * 64 = ap (λ o. length (unwrap_or o [])) (sym e ∙ c.chain) ∙ c.long in

@@ -30,6 +30,11 @@ module _ (ys zs : List ℕ) (i : ℕ) (l : i + length zs ≤ length ys) where
       get_or-append_right (take i ys) _ i j 0 front (omega arith) ∙ get_or-append_right zs _ (length zs) (j - i) 0 refl (omega arith)
       ∙ get_or-drop (i + length zs) ys (j - i - length zs) 0 ∙ ap (λ k. get_or ys k 0) e
 
+-- more bytes behind a link
+pub link_left : (xs ys : List ℕ) (p : ℕ) → 4 * p + 4 ≤ length xs → link_in (xs ++ ys) p ≡ link_in xs p
+link_left xs ys p l = λ i. get_or_append_left xs ys 0 (4 * p) (omega arith) i + get_or_append_left xs ys 0 (4 * p + 1) (omega arith) i * 256
+    + get_or_append_left xs ys 0 (4 * p + 2) (omega arith) i * 65536 + get_or_append_left xs ys 0 (4 * p + 3) (omega arith) i * 16777216
+
 -- a number by its four bytes
 split : (v : ℕ) → v < 2 ^ 32 → v % 256 + v / 256 % 256 * 256 + v / 65536 % 256 * 65536 + v / 16777216 % 256 * 16777216 ≡ v
 split v small =

@@ -5,9 +5,12 @@ use mathlib.Core.Path.{fun_ext}
 use Rattle.std.specs.Map.{update}
 use Rattle.std.proofs.lemmas.List.{length-append, length-replicate, replicate-append-replicate, drop_all, length-set}
 use Rattle.std.proofs.lemmas.Map.{update_here, update_apart, update-update}
-use Rattle.std.proofs.lemmas.Bool.{cases_eq, eq-eqb, ne_eqb}
+use Rattle.std.proofs.Math.Bool.{or-false, or_comm}
+use Rattle.std.proofs.Math.Nat.{mul-pos}
+use Rattle.std.proofs.lemmas.Bool.{cases_eq, eq-eqb, ne_eqb, or_right}
 use Rattle.links.specs.Links.{END}
 use Rattle.store.specs.declared.entries.Entry.{Entry}
+use Rattle.store.specs.declared.entries.ObjType.TheVariants.{Unallocated}
 use Rattle.store.specs.Refusals.{Refused, answer, unless}
 use Rattle.store.specs.Meaning.{Store, Hosted, Lawful, MAX_HEAD, bytes_of, units_of, zeros, laid, with_chain, with_notes, Begins, wrote, worded, moved}
 use Rattle.chain.proofs.Dues.{begin_yes, extend_yes}
@@ -17,7 +20,7 @@ use Rattle.rooms.specs.Rooms.{fats_needed, minis_needed, need, fits}
 use Rattle.rooms.proofs.Rooms.{fits_parts}
 use Rattle.mini.specs.Adding.{GrowsBy, Grows, filled, fats_told, minis_told, AddsFatsBy, AddsMinisBy, AddsFats, AddsMinis}
 use Rattle.mini.specs.Mini.{root_of, stream_at, fat_at, ground_of, Present, Borne, kept_part}
-use Rattle.mini.proofs.Figures.{end_none, whole_units, units_few, bytes_few}
+use Rattle.mini.proofs.Figures.{end_none, end_bytes, whole_units, units_few, bytes_few}
 use Rattle.mini.proofs.States.{wrote_yes, hosted_same, entered_yes}
 use Rattle.mini.proofs.Swaps.{same_notes, bytes_here, root_moved, moved_twice}
 
@@ -27,17 +30,14 @@ pub record Grew (s : Store) (start n h : ℕ) (after : Store) : Type 0 where
   pub head : ((h ≡ start) × (start ≢ END)) ⊎ ((start ≡ END) × (s.chain h ≡ None) × (h ≤ MAX_HEAD))
 
 module _ (most layer : ℕ) (s : Store) (ok : Lawful most s) (n : ℕ) (some : n ≢ 0) (room : n ≤ s.room) where
-  end_bytes : (start : ℕ) → start ≡ END → bytes_of s start ≡ []
-  end_bytes start e = ap (λ o. unwrap_or o []) (ap s.chain e ∙ end_none most s ok)
-
   grew : (start : ℕ) → (start ≡ END) ⊎ ((xs : List ℕ) × (s.chain start ≡ Some xs)) → (r : Result ℕ Refused) (mid : Store) → Grows s layer start n r mid
       → (h : ℕ) × (r ≡ Ok h) × Grew s start n h mid
   grew start there r mid g = ⊎_elim new old (cases_eq start END)
     where
       begun : (r : Result ℕ Refused) → start ≡ END → Begins s layer n r mid → (h : ℕ) × (r ≡ Ok h) × Grew s start n h mid
       begun (Ok h) e b =
-          (h, refl, record { is = b.3 ∙ ap (λ ys. with_chain s h (Some (ys ++ zeros s n)) (s.room - n)) (sym (end_bytes start e)); head = inr (e, b.1, b.2) })
-      begun (Err f) e b = absurd (let q : None ≡ Some f = sym (begin_yes s layer n some room) ∙ b.0 in let z : ◌≡◌ {A = ℕ} 0 1 = cc in omega arith)
+          (h, refl, record { is = b.3 ∙ ap (λ ys. with_chain s h (Some (ys ++ zeros s n)) (s.room - n)) (sym (end_bytes most s ok start e)); head = inr (e, b.1, b.2) })
+      begun (Err f) e b = let q : None ≡ Some f = sym (begin_yes s layer n some room) ∙ b.0 in cc
 
       new : start ≡ END → (h : ℕ) × (r ≡ Ok h) × Grew s start n h mid
       new e = begun r e (subst (λ b. GrowsBy b s layer start n r mid) (eq-eqb start END e) g)
@@ -93,20 +93,15 @@ module _ (most : ℕ) (s : Store) (ok : Lawful most s) (start h : ℕ) (w : Opti
   both-none true o e = refl
   both-none false o e = e
 
-  or_true : (b c : Bool) → c ≡ true → (b || c) ≡ true
-  or_true true c e = refl
-  or_true false c e = e
-
   or_none : (b c : Bool) → c ≡ false → (b || c) ≡ b
-  or_none true c e = refl
-  or_none false c e = e
+  or_none b c e = ap (λ d. b || d) e ∙ or-false b
 
   pub others_kept : (k : ℕ) (b : Bool) → cond (b || eqb k h) None (update eqb s.chain h w k) ≡ cond (b || eqb k start) None (s.chain k)
   others_kept k b = ⊎_elim here away (cases_eq k h)
     where
       here : k ≡ h → cond (b || eqb k h) None (update eqb s.chain h w k) ≡ cond (b || eqb k start) None (s.chain k)
-      here e = ap (λ c. cond c None (update eqb s.chain h w k)) (or_true b (eqb k h) (eq-eqb k h e)) ∙ sym (⊎_elim
-          (λ p. ap (λ c. cond c None (s.chain k)) (or_true b (eqb k start) (eq-eqb k start (e ∙ p.0))))
+      here e = ap (λ c. cond c None (update eqb s.chain h w k)) (or_right b (eqb k h) (eq-eqb k h e)) ∙ sym (⊎_elim
+          (λ p. ap (λ c. cond c None (s.chain k)) (or_right b (eqb k start) (eq-eqb k start (e ∙ p.0))))
           (λ p. both-none (b || eqb k start) (s.chain k) (ap s.chain e ∙ p.1)) head)
 
       away : k ≢ h → cond (b || eqb k h) None (update eqb s.chain h w k) ≡ cond (b || eqb k start) None (s.chain k)
@@ -123,7 +118,7 @@ module _ (most : ℕ) (s : Store) (ok : Lawful most s) (start h : ℕ) (w : Opti
       (λ q. omega (arith, q.2, ap (λ k. k) (sym e ∙ p.1))) head
   new_apart x n far (inr (xs, p)) e = ⊎_elim
       (λ q. ⊎_elim (λ f. f (e ∙ q.0)) (λ z. q.1 z) far)
-      (λ q. let z : Some xs ≡ None = sym p ∙ ap s.chain e ∙ q.1 in let y : ◌≡◌ {A = ℕ} 0 1 = cc in omega arith) head
+      (λ q. let z : Some xs ≡ None = sym p ∙ ap s.chain e ∙ q.1 in cc) head
 
 -- sectors were added: nf to the MiniFAT, nm to the mini stream
 pub record Added (s after : Store) (nf nm : ℕ) : Type 0 where
@@ -170,11 +165,7 @@ module _ (most layer : ℕ) (s : Store) (ok : Lawful most s) (h : Hosted s) (t :
   n_few = omega (arith, room, ok.within [] tt, ok.few)
 
   positive : 0 < n * s.unit
-  positive = omega (arith, mul_pos n s.unit (omega arith) ok.unit)
-    where
-      mul_pos : (a c : ℕ) → 0 < a → 0 < c → 0 < a * c
-      mul_pos zero c p q = absurd (omega arith)
-      mul_pos (suc a) c p q = omega (arith, suc-mul a c, p, q)
+  positive = mul-pos (omega arith) ok.unit
 
   pub added_fats : (after : Store) → AddsFatsBy false s layer n after → Added s after n 0
   added_fats after a =
@@ -188,14 +179,15 @@ module _ (most layer : ℕ) (s : Store) (ok : Lawful most s) (h : Hosted s) (t :
       let grown = with_chain s head (Some (ys ++ zeros s n)) (s.room - n) in
       let lz : length (zeros s n) ≡ n * u = length-replicate (n * u) 0 in
       let ly : length (ys ++ zeros s n) ≡ had * u + n * u = length-append ys (zeros s n) ∙ omega (arith, lz, whole_units most s ok (fat_at s), ap (λ k. k * u) b.counted) in
-      let told : worded a.1 head ((had + n) % 0x100000000) ≡ worded grown head (had + n) = λ i. worded (q.is i) head (cnt i) in
-      let fill : filled n (worded grown head (had + n)) layer head had ≡ with_chain (worded grown head (had + n)) head (Some (laid (ys ++ zeros s n) (had * u) (replicate (n * u) 255))) (s.room - n) =
-      filled_is n (worded grown head (had + n)) layer head had (ys ++ zeros s n) (update_here s.chain head (Some (ys ++ zeros s n))) (omega (arith, ly, positive)) (omega (arith, ly, add-mul had n u)) in
+      let now : Store = worded grown (record { start = head; count = had + n }) in
+      let told : worded a.1 (record { start = head; count = (had + n) % 0x100000000 }) ≡ now = λ i. worded (q.is i) (record { start = head; count = cnt i }) in
+      let fill : filled n now layer head had ≡ with_chain now head (Some (laid (ys ++ zeros s n) (had * u) (replicate (n * u) 255))) (s.room - n) =
+      filled_is n now layer head had (ys ++ zeros s n) (update_here s.chain head (Some (ys ++ zeros s n))) (omega (arith, ly, positive)) (omega (arith, ly, add-mul had n u)) in
       let bytes : laid (ys ++ zeros s n) (had * u) (replicate (n * u) 255) ≡ ys ++ replicate (n * u) 255 =
       laid_behind ys (zeros s n) (replicate (n * u) 255) (had * u) (omega (arith, whole_units most s ok (fat_at s), ap (λ k. k * u) b.counted)) (lz ∙ sym (length-replicate (n * u) 255)) in
-      let final : Store = with_chain (worded grown head (had + n)) head (Some (ys ++ replicate (n * u) 255)) (s.room - n) in
+      let final : Store = with_chain now head (Some (ys ++ replicate (n * u) 255)) (s.room - n) in
       let e : after ≡ final = a.3 ∙ (λ i. fats_told (g.1 i) a.1 layer had n) ∙ ap (λ z. filled n z layer head had) told ∙ fill
-      ∙ ap (λ zs. with_chain (worded grown head (had + n)) head (Some zs) (s.room - n)) bytes in
+      ∙ ap (λ zs. with_chain now head (Some zs) (s.room - n)) bytes in
       let apart = new_apart most s ok (fat_at s) head (Some (ys ++ zeros s n)) q.head (stream_at s) (root_of s).length b.two b.stream in
       let twice : (k : ℕ) → final.chain k ≡ update eqb s.chain head (Some (ys ++ replicate (n * u) 255)) k =
       λ k. update-update eqb s.chain head (Some (ys ++ zeros s n)) (Some (ys ++ replicate (n * u) 255)) k in
@@ -206,10 +198,10 @@ module _ (most layer : ℕ) (s : Store) (ok : Lawful most s) (h : Hosted s) (t :
         long = refl;
         count = refl;
         stream = ap (λ o. unwrap_or o []) far ∙ none_more (bytes_of s (stream_at s)) u 0;
-        fat = bytes_here (worded grown head (had + n)) head (ys ++ replicate (n * u) 255) (s.room - n);
+        fat = bytes_here now head (ys ++ replicate (n * u) 255) (s.room - n);
         two = inl apart;
         there_stream = ⊎_elim (λ p. inl p) (λ p. inr (p.0, far ∙ p.1)) b.stream;
-        there_fat = inr (ys ++ replicate (n * u) 255, update_here (worded grown head (had + n)).chain head (Some (ys ++ replicate (n * u) 255)));
+        there_fat = inr (ys ++ replicate (n * u) 255, update_here now.chain head (Some (ys ++ replicate (n * u) 255)));
         notes = same_notes _ _ refl refl (fun_ext (λ k. ap (λ o. cond (eqb k (stream_at s) || eqb k head) None o) (twice k)
             ∙ others_kept most s ok (fat_at s) head (Some (ys ++ replicate (n * u) 255)) q.head k (eqb k (stream_at s))));
         hosted = hosted_same s _ h refl refl;
@@ -228,7 +220,7 @@ module _ (most layer : ℕ) (s : Store) (ok : Lawful most s) (h : Hosted s) (t :
       let final : Store = with_notes grown (moved es 0 head long) s.notes.words in
       let e : after ≡ final = a.3 ∙ (λ i. minis_told (g.1 i) (q.is i) layer (root_of s).length) ∙ entered_yes grown layer head (long % 0x100000000) h.some
       ∙ ap (λ k. with_notes grown (moved es 0 head k) s.notes.words) short in
-      let root = root_moved es h.some head long (record { kind = 0; start = END; length = 0 }) in
+      let root = root_moved es h.some head long (record { kind = Unallocated; start = END; length = 0 }) in
       let start : stream_at final ≡ head = ap (λ (z : Entry). z.start) root in
       let apart = new_apart most s ok (stream_at s) head (Some (xs ++ zeros s n)) q.head (fat_at s) s.notes.words.count (flip s b.two b.stream) b.fat in
       let far : final.chain (fat_at s) ≡ s.chain (fat_at s) = update_apart s.chain head (Some (xs ++ zeros s n)) (fat_at s) apart in
@@ -247,12 +239,6 @@ module _ (most layer : ℕ) (s : Store) (ok : Lawful most s) (h : Hosted s) (t :
             ∙ others_kept most s ok (stream_at s) head (Some (xs ++ zeros s n)) q.head k (eqb k (fat_at s)) ∙ ap (λ c. cond c None (s.chain k)) (or_comm (eqb k (fat_at s)) (eqb k (stream_at s)))));
         hosted = hosted_same s _ h refl (length-set es 0 _);
       })
-    where
-      or_comm : (c d : Bool) → (c || d) ≡ (d || c)
-      or_comm true true = refl
-      or_comm true false = refl
-      or_comm false true = refl
-      or_comm false false = refl
 
 -- one after the other
 pub added-both : (s mid after : Store) (nf nm : ℕ) → Added s mid nf 0 → Added mid after 0 nm → Added s after nf nm

@@ -1,7 +1,7 @@
 -- Reserving sectors before places are taken, and trimming after some were given back, leave what the mini store means.
 -- Assumes nothing.
 use Rattle.std.proofs.Common.{◌≡◌, ℕ, ◌+◌, ◌-◌, ◌*◌, ◌/◌, ◌%◌, ◌<◌, ◌≤◌, true, List, ◌++◌, length, count_by, sym, refl, ap, ◌∙◌, subst, inl, inr, ⊎_elim, mod-eq_of_lt, arith}
-use Rattle.std.proofs.lemmas.List.{get_or_append_left, length-take-le, take_all, get_or_past, length-set}
+use Rattle.std.proofs.lemmas.List.{length-take-le, take_all, get_or_past, length-set}
 use Rattle.std.proofs.lemmas.Bool.{cases_lt, cond-true, cond-false, lt-ltb, le-ltb}
 use Rattle.links.specs.Bytes.{link_in}
 use Rattle.links.specs.Links.{FREE, free, at}
@@ -14,13 +14,15 @@ use Rattle.chain.specs.Units.{cell, content}
 use Rattle.chain.specs.Webs.{stored}
 use Rattle.chain.proofs.Laid.{slice_left}
 use Rattle.chain.proofs.Weaves.{same_stored}
-use Rattle.rooms.specs.Rooms.{Ground, fats_needed, minis_needed, need, fits, growth, reserved, taller}
+use Rattle.rooms.specs.declared.Ground.{Ground}
+use Rattle.rooms.specs.Rooms.{fats_needed, minis_needed, need, fits, growth, reserved, taller}
 use Rattle.rooms.proofs.Rooms.{Fair, fits_parts, reserve_same, reserve_none, taller_less}
 use Rattle.mini.specs.Adding.{AddsFats, AddsMinis}
 use Rattle.mini.specs.Mini.{root_of, stream_at, fat_at, ground_of, Borne, kept_part, dry, web_of, Synced}
 use Rattle.mini.specs.Steps.{rooted, Trims}
 use Rattle.mini.proofs.Figures.{bytes_few}
 use Rattle.mini.proofs.Growths.{dry-more, borne_fair}
+use Rattle.mini.proofs.Links.{link_left}
 use Rattle.mini.proofs.Reserves.{Added, reserved-added, added_borne, added_ground}
 use Rattle.mini.proofs.States.{hosted_same, entered_yes}
 use Rattle.mini.proofs.Swaps.{kept_rooted, bytes_rooted, ground_rooted, borne_rooted}
@@ -30,10 +32,6 @@ use Rattle.mini.proofs.Weaves.{mini_woven}
 cell_left : (xs ys : List ℕ) (p : ℕ) → p * 64 + 64 ≤ length xs → cell 64 (xs ++ ys) p ≡ cell 64 xs p
 unfolding cell
 cell_left xs ys p l = slice_left xs ys (p * 64) 64 l
-
-link_left : (xs ys : List ℕ) (p : ℕ) → 4 * p + 4 ≤ length xs → link_in (xs ++ ys) p ≡ link_in xs p
-link_left xs ys p l = λ i. get_or_append_left xs ys 0 (4 * p) (omega arith) i + get_or_append_left xs ys 0 (4 * p + 1) (omega arith) i * 256
-    + get_or_append_left xs ys 0 (4 * p + 2) (omega arith) i * 65536 + get_or_append_left xs ys 0 (4 * p + 3) (omega arith) i * 16777216
 
 -- the sectors for a growth by k places were added
 pub record Reserved (s after : Store) (L S : List ℕ) (k : ℕ) : Type 0 where
@@ -46,9 +44,6 @@ pub record Reserved (s after : Store) (L S : List ℕ) (k : ℕ) : Type 0 where
 
 module _ (most layer : ℕ) (s mid after : Store) (ok : Lawful most s) (okm : Lawful most mid) (h : Hosted s) (L S : List ℕ) (few : length L ≤ 4096) (kept : Kept L S) (b : Borne s (length L))
     (k : ℕ) (fit : fits (ground_of s (length L)) k ≡ true) (af : AddsFats s layer (fats_needed (ground_of s (length L)) k % 0x100000000) mid) (am : AddsMinis mid layer (minis_needed (ground_of s (length L)) k % 0x100000000) after) where
-  t : ℕ
-  t = length L
-
   added : Added s after (fats_needed (ground_of s (length L)) k) (minis_needed (ground_of s (length L)) k)
   added = reserved-added most layer s mid after ok okm h (length L) k b fit af am
 
@@ -81,12 +76,6 @@ pub record Trimmed (s after : Store) (L L' S S' : List ℕ) : Type 0 where
 
 module _ (most layer : ℕ) (s after : Store) (ok : Lawful most s) (h : Hosted s) (L S L' S' : List ℕ) (few : length L ≤ 4096) (kept : Kept L S) (few' : length L' ≤ 4096) (kept' : Kept L' S') (b : Borne s (length L))
     (tr : Trims layer s L S after L' S') (same : at L' ≡ at L) where
-  n : ℕ
-  n = trimmed L
-
-  gone : ℕ
-  gone = length L - trimmed L
-
   within : trimmed L ≤ length L
   within = omega arith
 

@@ -10,7 +10,8 @@ use Rattle.store.specs.Refusals.{unless}
 use Rattle.store.specs.Meaning.{Store, Notes, Hosted, bytes_of, units_of, laid, with_chain, with_notes, moved, headed, refuse, wrote, entered}
 use Rattle.chain.specs.Webs.{Web}
 use Rattle.chain.proofs.Laid.{length-laid}
-use Rattle.rooms.specs.Rooms.{Ground, growth}
+use Rattle.rooms.specs.declared.Ground.{Ground}
+use Rattle.rooms.specs.Rooms.{growth}
 use Rattle.mini.specs.Mini.{root_of, stream_at, fat_at, ground_of, Borne, kept_part, sealed, dry, web_of}
 use Rattle.mini.specs.Steps.{relinked, rooted, zeroed}
 use Rattle.mini.proofs.Swaps.{bytes_here, bytes_other, ground_same, borne_same, kept_same, sealed_stream, sealed_fat, sealed_bytes, rooted_start, rooted_long, sealed-rooted, kept_rooted, bytes_rooted, ground_rooted}
@@ -103,9 +104,6 @@ module _ (m s : Store) (xs ys : List ℕ) (r : ℕ) (b : Store) (k : State m s x
     wipe_fits : p * 64 + length {A = ℕ} (replicate 64 0) ≤ length (bytes_of s (stream_at s))
     wipe_fits = omega (arith, ap length k.bytes, length-replicate {A = ℕ} 64 0)
 
-    wiped : Store
-    wiped = with_chain s (stream_at s) (Some (zeroed (bytes_of s (stream_at s)) p)) s.room
-
     pub wipe_wrote : (layer : ℕ) → wrote s layer (stream_at s) (p * 64) (replicate 64 0) ≡ with_chain s (stream_at s) (Some (zeroed (bytes_of s (stream_at s)) p)) s.room
     wipe_wrote layer = wrote_yes s (stream_at s) layer (p * 64) (replicate 64 0) (omega (arith, ap length k.bytes)) wipe_fits
 
@@ -130,9 +128,6 @@ module _ (m s : Store) (xs ys : List ℕ) (r : ℕ) (b : Store) (k : State m s x
 
   -- the root has another length
   module _ (n : ℕ) where
-    pub root_set : (layer : ℕ) → entered s layer 0 (stream_at s) n ≡ rooted s n
-    root_set layer = entered_yes s layer (stream_at s) n k.hosted.some
-
     pub two-rooted : stream_at (rooted s n) ≢ fat_at (rooted s n)
     two-rooted e = two (sym (rooted_start s k.hosted.some n) ∙ e)
 

@@ -8,9 +8,10 @@ use Rattle.std.proofs.lemmas.Map.{update_here, update_apart}
 use Rattle.std.proofs.lemmas.Bool.{cases_eq, eq-eqb, or_left, or_right}
 use Rattle.links.specs.Links.{END}
 use Rattle.store.specs.declared.entries.Entry.{Entry}
+use Rattle.store.specs.declared.entries.ObjType.TheVariants.{Unallocated}
 use Rattle.store.specs.Meaning.{Store, Notes, bytes_of, units_of, with_chain, moved}
 use Rattle.chain.proofs.Zeros.{chain_twice}
-use Rattle.rooms.specs.Rooms.{Ground}
+use Rattle.rooms.specs.declared.Ground.{Ground}
 use Rattle.mini.specs.Mini.{root_of, stream_at, fat_at, ground_of, Present, Borne, kept_part, sealed}
 use Rattle.mini.specs.Steps.{rooted}
 
@@ -46,9 +47,6 @@ chains_commute s h k v w q r n = same_store _ _ refl (fun_ext each) refl refl
 
 -- as many bytes in the chain of h, which is the mini stream's or the MiniFAT's
 module _ (s : Store) (h : ℕ) (zs : List ℕ) (ours : (h ≡ stream_at s) ⊎ (h ≡ fat_at s)) (same : length zs ≡ length (bytes_of s h)) where
-  swapped : Store
-  swapped = with_chain s h (Some zs) s.room
-
   pub long_same : (k : ℕ) → length (bytes_of (with_chain s h (Some zs) s.room) k) ≡ length (bytes_of s k)
   long_same k = ⊎_elim (λ (e : k ≡ h). rw e (ap length (bytes_here s h zs s.room) ∙ same)) (λ n. ap length (bytes_other s h zs s.room k n)) (cases_eq k h)
 
@@ -96,16 +94,16 @@ sealed_bytes s n = ap (λ o. unwrap_or o []) (update_apart s.chain (stream_at s)
 
 -- another root length, and start
 module _ (es : List Entry) (some : 0 < length es) (st n : ℕ) where
-  pub root_moved : (d : Entry) → get_or (moved es 0 st n) 0 d ≡ record { kind = (get_or es 0 (record { kind = 0; start = 0; length = 0 })).kind; start = st; length = n }
+  pub root_moved : (d : Entry) → get_or (moved es 0 st n) 0 d ≡ record { kind = (get_or es 0 (record { kind = Unallocated; start = 0; length = 0 })).kind; start = st; length = n }
   root_moved d = get_or-set_same es 0 _ d some
 
   pub moved_twice : (x m : ℕ) → moved (moved es 0 st n) 0 x m ≡ moved es 0 x m
   moved_twice x m =
-      let k = ap (λ (e : Entry). e.kind) (root_moved (record { kind = 0; start = 0; length = 0 })) in
+      let k = ap (λ (e : Entry). e.kind) (root_moved (record { kind = Unallocated; start = 0; length = 0 })) in
       ap (λ j. set (moved es 0 st n) 0 (record { kind = j; start = x; length = m })) k ∙ set-set es 0 _ _
 
 module _ (s : Store) (some : 0 < length s.notes.entries) (n : ℕ) where
-  pub rooted_root : root_of (rooted s n) ≡ record { kind = (get_or s.notes.entries 0 (record { kind = 0; start = 0; length = 0 })).kind; start = stream_at s; length = n }
+  pub rooted_root : root_of (rooted s n) ≡ record { kind = (get_or s.notes.entries 0 (record { kind = Unallocated; start = 0; length = 0 })).kind; start = stream_at s; length = n }
   rooted_root = root_moved s.notes.entries some (stream_at s) n _
 
   pub rooted_start : stream_at (rooted s n) ≡ stream_at s

@@ -1,6 +1,6 @@
 -- What taking a mini sector, linking one and giving one back make of the mini sectors, by what the host's calls leave.
 -- Assumes nothing.
-use Rattle.std.proofs.Common.{◌≡◌, ℕ, ◌+◌, ◌-◌, ◌*◌, ◌/◌, ◌<◌, ◌≤◌, ◌≢◌, List, [], ◌∷◌, ◌++◌, length, set, replicate, Some, count_by, unwrap_or, sym, refl, ap, ◌∙◌, inl, inr, ⊎_elim, arith}
+use Rattle.std.proofs.Common.{◌≡◌, ℕ, ◌+◌, ◌-◌, ◌*◌, ◌/◌, ◌<◌, ◌≤◌, ◌≢◌, List, [], ◌∷◌, ◌++◌, length, set, replicate, Some, count_by, sym, refl, ap, ◌∙◌, inl, inr, ⊎_elim, arith}
 use Rattle.std.proofs.lemmas.List.{length-set, length_push, length-take}
 use Rattle.links.specs.Bytes.{bytes_of_link, link_in}
 use Rattle.links.specs.Links.{FREE, END, free, at, In}
@@ -17,7 +17,7 @@ use Rattle.chain.proofs.Laid.{length-laid}
 use Rattle.rooms.specs.Rooms.{growth, taller}
 use Rattle.mini.specs.Mini.{root_of, stream_at, fat_at, ground_of, Borne, kept_part, sealed, dry, web_of, Synced}
 use Rattle.mini.specs.Steps.{relinked, rooted, grown_root, zeroed, took_mini, put_mini, ended_mini, gave_mini}
-use Rattle.mini.proofs.Figures.{end_none, whole_units}
+use Rattle.mini.proofs.Figures.{end_bytes, whole_units}
 use Rattle.mini.proofs.Links.{links_wrote}
 use Rattle.mini.proofs.Growths.{dry-one, one_less, one-fits}
 use Rattle.mini.proofs.Swaps.{borne_rooted}
@@ -25,19 +25,12 @@ use Rattle.mini.proofs.States.{State, some_chain, ground_at, state_start, state_
 
 -- where the MiniFAT has bytes, it is not the mini stream
 pub apart_heads : (most : ℕ) (s : Store) (t : ℕ) → Lawful most s → Borne s t → 0 < length (bytes_of s (fat_at s)) → stream_at s ≢ fat_at s
-apart_heads most s t ok b l = ⊎_elim (λ d. d) (λ e. absurd (omega (arith, ap length (none e)))) b.two
-  where
-    none : fat_at s ≡ END → bytes_of s (fat_at s) ≡ []
-    none e = ap (λ k. bytes_of s k) e ∙ ap (λ o. unwrap_or o []) (end_none most s ok)
+apart_heads most s t ok b l = ⊎_elim (λ d. d) (λ e. absurd (omega (arith, ap length (end_bytes most s ok (fat_at s) e)))) b.two
 
 -- a place of the table after one was taken was there, or is that one
 taken_within : (L S : List ℕ) (k : ℕ) → k < length (links_taken L S) → k ≢ place_after L S → k < length L
 taken_within L [] k l n = omega (arith, length_push L END)
 taken_within L (x ∷ S) k l n = rw length-set at l
-
--- the bytes of the MiniFAT in a state
-synced_state : (m s : Store) (xs ys : List ℕ) (r : ℕ) (b : Store) (L : List ℕ) → State m s xs ys r b → ((k : ℕ) → k < length L → link_in ys k ≡ at L k) → Synced s L
-synced_state m s xs ys r b L st e k l = ap (λ zs. link_in zs k) st.fat ∙ e k l
 
 -- what the host's calls made of a host m and a table M: the mini sectors are v, the host s bears the table L out, and if
 -- the MiniFAT's bytes were the links of the table, they are
@@ -47,13 +40,20 @@ pub record Made (m : Store) (M : List ℕ) (s : Store) (L S : List ℕ) (v : Web
   pub synced : Synced m M → Synced s L
   pub hosted : Hosted s
 
+-- they are, where the host is in a state whose bytes the table is
+made_by : (m s : Store) (xs ys : List ℕ) (r : ℕ) (b : Store) → State m s xs ys r b → (M L L' S S' : List ℕ) (u : Store) (ready room : ℕ) → u ≡ s → L' ≡ L → S' ≡ S
+    → count_by free L' + growth (dry (ground_at m r (length L'))) ≡ ready → count_by free L' + growth (ground_at m r (length L')) ≡ room → Borne s (length L')
+    → (Synced m M → (k : ℕ) → k < length L → link_in ys k ≡ at L k)
+    → Made m M u L' S' (record { unit = 64; links = L; bytes = xs; stack = S; ready = ready; room = room; below = b ∷ []; notes = kept_part m })
+made_by m s xs ys r b st M L L' S S' u ready room e el eS er eo bo sy = record {
+  web = ap (λ z. web_of z L' S') e ∙ state_web m s xs ys r b L' S' st
+      ∙ (λ i. record { unit = 64; links = el i; bytes = xs; stack = eS i; ready = er i; room = eo i; below = b ∷ []; notes = kept_part m });
+  borne = rw e bo;
+  synced = λ k. rw (e, el) (λ p l. ap (λ zs. link_in zs p) st.fat ∙ sy k p l);
+  hosted = rw e st.hosted;
+}
+
 module _ (most layer : ℕ) (m : Store) (ok : Lawful most m) (h : Hosted m) (L S : List ℕ) (few : length L ≤ 4096) (kept : Kept L S) (b : Borne m (length L)) where
-  xs : List ℕ
-  xs = bytes_of m (stream_at m)
-
-  ys : List ℕ
-  ys = bytes_of m (fat_at m)
-
   start : State m m (bytes_of m (stream_at m)) (bytes_of m (fat_at m)) (root_of m).length (sealed m)
   start = state_start m h
 
@@ -74,27 +74,15 @@ module _ (most layer : ℕ) (m : Store) (ok : Lawful most m) (h : Hosted m) (L S
     -- a chain is cut off there
     pub ended_made : (s : Store) (L' S' : List ℕ) → s ≡ wrote m layer (fat_at m) (4 * p) (bytes_of_link END) → L' ≡ set L p END → S' ≡ S → Kept L' S' → Made m L s L' S' (ended_mini (web_of m L S) p)
     ended_made s L' S' e el eS k =
+        let m1 = relinked m p END in
         let a = e ∙ link_wrote_lem m m _ _ _ _ start place_two (length L) b p END place_link layer in
         let st = state_link m m _ _ _ _ start place_two (length L) b p END place_link in
         let n : length L' ≡ length L = ap length el ∙ length-set L p END in
         let c : count_by free L' ≡ count_by free L = sym (stack_count L' S' k) ∙ ap length eS ∙ stack_count L S kept in
         let g : ground_at m (root_of m).length (length L') ≡ ground_of m (length L) = ap (ground_at m (root_of m).length) n in
-        record {
-          web = ap (λ z. web_of z L' S') a ∙ state_web m _ _ _ _ _ L' S' st
-              ∙ (λ i. record {
-                unit = 64;
-                links = el i;
-                bytes = bytes_of m (stream_at m);
-                stack = eS i;
-                ready = c i + growth (dry (g i));
-                room = c i + growth (g i);
-                below = relinked (sealed m) p END ∷ [];
-                notes = kept_part m;
-              });
-          borne = rw (a, n) (borne_link m m _ _ _ _ start place_two (length L) b p END place_link);
-          synced = λ k. rw (a, el) (synced_state m _ _ _ _ _ (set L p END) st (links_wrote (bytes_of m (fat_at m)) p END place_link L (set L p END) (omega arith) (wrote-set L p END place_below) (λ q i _. rw length-set at i) k));
-          hosted = rw a st.hosted;
-        }
+        made_by m m1 _ _ _ _ st L (set L p END) L' S S' s _ _ a el eS (λ i. c i + growth (dry (g i))) (λ i. c i + growth (g i))
+        (rw n (borne_link m m _ _ _ _ start place_two (length L) b p END place_link))
+        (links_wrote (bytes_of m (fat_at m)) p END place_link L (set L p END) (omega arith) (wrote-set L p END place_below) (λ q i _. rw length-set at i))
 
     -- it is given back
     pub gave_made : (s u : Store) (L' S' : List ℕ) → s ≡ wrote m layer (fat_at m) (4 * p) (bytes_of_link FREE) → u ≡ wrote s layer (stream_at s) (p * 64) (replicate 64 0)
@@ -112,22 +100,9 @@ module _ (most layer : ℕ) (m : Store) (ok : Lawful most m) (h : Hosted m) (L S
         let count : count_by free L' ≡ count_by free L + 1 = omega (arith, stack_count L' S' k, stack_count L S kept) in
         let ready : count_by free L' + growth (dry (ground_at m (root_of m).length (length L'))) ≡ (web_of m L S).ready + 1 = omega (arith, count, ap (λ x. growth (dry x)) g) in
         let room : count_by free L' + growth (ground_at m (root_of m).length (length L')) ≡ (web_of m L S).room + 1 = omega (arith, count, ap growth g) in
-        record {
-          web = ap (λ z. web_of z L' S') c ∙ state_web m _ _ _ _ _ L' S' st2
-              ∙ (λ i. record {
-                unit = 64;
-                links = el i;
-                bytes = zeroed (bytes_of m (stream_at m)) p;
-                stack = eS i;
-                ready = ready i;
-                room = room i;
-                below = relinked (sealed m) p FREE ∷ [];
-                notes = kept_part m;
-              });
-          borne = rw (c, n) (borne_wipe m m1 _ _ _ _ st1 place_two (length L) b1 p place_bytes);
-          synced = λ k. rw (c, el) (synced_state m _ _ _ _ _ (set L p FREE) st2 (links_wrote (bytes_of m (fat_at m)) p FREE place_link L (set L p FREE) (omega arith) (wrote-set L p FREE place_below) (λ q i _. rw length-set at i) k));
-          hosted = rw c st2.hosted;
-        }
+        made_by m _ _ _ _ _ st2 L (set L p FREE) L' (S ++ p ∷ []) S' u _ _ c el eS ready room
+        (rw n (borne_wipe m m1 _ _ _ _ st1 place_two (length L) b1 p place_bytes))
+        (links_wrote (bytes_of m (fat_at m)) p FREE place_link L (set L p FREE) (omega arith) (wrote-set L p FREE place_below) (λ q i _. rw length-set at i))
 
 -- a host that is ready for the next place: with the root length r, for t links
 pub record Prepared (m s : Store) (L S : List ℕ) (r : ℕ) : Type 0 where
@@ -207,12 +182,6 @@ module _ (most : ℕ) (m : Store) (ok : Lawful most m) (h : Hosted m) (L : List 
 -- the host's calls behind that: the link is written, the mini sector zeroed
 module _ (layer : ℕ) (m s s2 s3 : Store) (L S : List ℕ) (r : ℕ) (q : Prepared m s L S r)
     (e2 : s2 ≡ wrote s layer (fat_at s) (4 * place_after L S) (bytes_of_link END)) (e3 : s3 ≡ wrote s2 layer (stream_at s2) (place_after L S * 64) (replicate 64 0)) where
-  p : ℕ
-  p = place_after L S
-
-  t : ℕ
-  t = length (links_taken L S)
-
   linked : s2 ≡ relinked s (place_after L S) END
   linked = e2 ∙ link_wrote_lem m s _ _ _ _ q.state q.two (length (links_taken L S)) q.borne (place_after L S) END q.link layer
 
@@ -245,22 +214,8 @@ module _ (layer : ℕ) (m s s2 s3 : Store) (L S : List ℕ) (r : ℕ) (q : Prepa
   taken_synced kept few = links_wrote (bytes_of m (fat_at m)) (place_after L S) END q.link L (links_taken L S) (omega arith) (taking L S few kept.stacks).wrote (taken_within L S)
 
   pub took_made : Kept L S → length L ≤ 4096 → Made m L s3 (links_taken L S) (stack_taken S) (took_mini (web_of m L S))
-  took_made kept few = record {
-    web = ap (λ z. web_of z (links_taken L S) (stack_taken S)) is_wiped ∙ state_web m wiped _ _ _ _ (links_taken L S) (stack_taken S) wiped_state
-        ∙ (λ i. record {
-          unit = 64;
-          links = links_taken L S;
-          bytes = zeroed (bytes_of m (stream_at m)) (place_after L S);
-          stack = stack_taken S;
-          ready = ready_now i;
-          room = room_now i;
-          below = relinked (grown_root S (sealed m)) (place_after L S) END ∷ [];
-          notes = kept_part m;
-        });
-    borne = rw is_wiped wiped_borne;
-    synced = λ k. rw is_wiped (synced_state m wiped _ _ _ _ (links_taken L S) wiped_state (taken_synced kept few k));
-    hosted = rw is_wiped wiped_state.hosted;
-  }
+  took_made kept few =
+      made_by m wiped _ _ _ _ wiped_state L (links_taken L S) (links_taken L S) (stack_taken S) (stack_taken S) s3 _ _ is_wiped refl refl ready_now room_now wiped_borne (taken_synced kept few)
 
   -- and it is joined behind the place last
   module _ (s4 : Store) (last : ℕ) (L' : List ℕ) (fits : 4 * last + 4 ≤ length (bytes_of m (fat_at m)))
@@ -285,21 +240,7 @@ module _ (layer : ℕ) (m s s2 s3 : Store) (L S : List ℕ) (r : ℕ) (q : Prepa
         let g : ground_at m r (length L') ≡ ground_at m r (length (links_taken L S)) = ap (ground_at m r) long_joined in
         let ready : count_by free L' + growth (dry (ground_at m r (length L'))) ≡ (web_of m L S).ready - 1 = omega (arith, ready_now, same, ap (λ x. growth (dry x)) g) in
         let room : count_by free L' + growth (ground_at m r (length L')) ≡ (web_of m L S).room - 1 = omega (arith, room_now, same, ap growth g) in
-        record {
-          web = ap (λ z. web_of z L' (stack_taken S)) joined ∙ state_web m _ _ _ _ _ L' (stack_taken S) st
-              ∙ (λ i. record {
-                unit = 64;
-                links = el i;
-                bytes = zeroed (bytes_of m (stream_at m)) (place_after L S);
-                stack = stack_taken S;
-                ready = ready i;
-                room = room i;
-                below = relinked (relinked (grown_root S (sealed m)) (place_after L S) END) last (place_after L S) ∷ [];
-                notes = kept_part m;
-              });
-          borne = rw (joined, long_joined) (borne_link m wiped _ _ _ _ wiped_state q.two (length (links_taken L S)) wiped_borne last (place_after L S) fits_now);
-          synced = λ k. rw (joined, el) (synced_state m _ _ _ _ _ (set (links_taken L S) last (place_after L S)) st
-              (links_wrote (laid (bytes_of m (fat_at m)) (4 * place_after L S) (bytes_of_link END)) last (place_after L S) fits_now (links_taken L S) (set (links_taken L S) last (place_after L S)) (omega (arith, t.small))
-              (wrote-set (links_taken L S) last (place_after L S) there) (λ j i _. rw length-set at i) (taken_synced kept few k)));
-          hosted = rw joined st.hosted;
-        }
+        made_by m _ _ _ _ _ st L (set (links_taken L S) last (place_after L S)) L' (stack_taken S) (stack_taken S) s4 _ _ joined el refl ready room
+        (rw long_joined (borne_link m wiped _ _ _ _ wiped_state q.two (length (links_taken L S)) wiped_borne last (place_after L S) fits_now))
+        (λ k. links_wrote (laid (bytes_of m (fat_at m)) (4 * place_after L S) (bytes_of_link END)) last (place_after L S) fits_now (links_taken L S) (set (links_taken L S) last (place_after L S)) (omega (arith, t.small))
+        (wrote-set (links_taken L S) last (place_after L S) there) (λ j i _. rw length-set at i) (taken_synced kept few k))

@@ -1,6 +1,6 @@
 -- What a mini store means where it is open, and what going along its chains tells.
 -- Assumes nothing.
-use Rattle.std.proofs.Common.{◌≡◌, ℕ, ◌/◌, ◌≤◌, Bool, true, false, cond, ◌||◌, eqb, ◌⊎◌, List, [], length, Some, None, Option, unwrap_or, sym, refl, ap, ◌∙◌, subst, inl, inr, ⊎_elim, arith}
+use Rattle.std.proofs.Common.{◌≡◌, ℕ, ◌/◌, ◌≤◌, Bool, true, false, cond, ◌||◌, eqb, List, [], length, Some, None, Option, unwrap_or, sym, refl, ap, ◌∙◌, subst, ⊎_elim, arith}
 use mathlib.Core.Path.{fun_ext}
 use Rattle.std.specs.Map.{update}
 use Rattle.std.proofs.lemmas.Map.{update_here, update_apart}
@@ -13,10 +13,10 @@ use Rattle.links.proofs.Stacks.{Kept}
 use Rattle.store.specs.Meaning.{Store, Lawful, bytes_of, units_of, with_chain}
 use Rattle.chain.specs.Units.{content}
 use Rattle.chain.specs.Webs.{Woven, stored, viewed, path_of}
-use Rattle.chain.proofs.Weaves.{Chained, some_told, none_told, survey_some}
-use Rattle.rooms.specs.Rooms.{Ground}
+use Rattle.chain.proofs.Weaves.{Chained, some_told, survey_some}
+use Rattle.rooms.specs.declared.Ground.{Ground}
 use Rattle.mini.specs.Mini.{root_of, stream_at, fat_at, ground_of, ground_if, Borne, kept_part, sealed, web_of, meant_by, mini, Synced}
-use Rattle.mini.proofs.Figures.{end_none, told_borne, borne_told}
+use Rattle.mini.proofs.Figures.{end_bytes, told_borne, borne_told}
 use Rattle.mini.proofs.Swaps.{same_store, same_notes, same_ground, sealed_bytes}
 use Rattle.mini.proofs.Weaves.{mini_woven}
 
@@ -30,7 +30,7 @@ pub record Standing (o : Bool) (m : Store) (L S : List ℕ) (g : Ground) : Type 
 
 module _ (most : ℕ) (m : Store) (ok : Lawful most m) (L S : List ℕ) (few : length L ≤ 4096) (kept : Kept L S) where
   pub standing : (o : Bool) (g : Ground) → cond o (ground_if m (length L)) None ≡ Some g → Standing o m L S g
-  standing false g e = absurd (let z : ◌≡◌ {A = ℕ} 0 1 = cc in omega arith)
+  standing false g e = cc
   standing true g e =
       let b = told_borne most m ok (length L) g e in
       record { opened = refl; borne = b.0; ground = b.1; means = ap (λ x. meant_by x m L S) e; woven = mini_woven m L S few kept b.0 }
@@ -38,15 +38,6 @@ module _ (most : ℕ) (m : Store) (ok : Lawful most m) (L S : List ℕ) (few : l
   -- an open one whose host bears the table out is such
   pub means_open : (o : Bool) → o ≡ true → Borne m (length L) → mini o m L S ≡ stored (web_of m L S)
   means_open o e b = ap (λ p. mini p m L S) e ∙ ap (λ x. meant_by x m L S) (borne_told most m ok (length L) b)
-
-  -- what is no head in the table, or in a shut one, has no chain
-  pub chain_none : (o : Bool) (h : ℕ) → (cond o (ground_if m (length L)) None ≡ None) ⊎ (chain_of L h ≡ None) → (mini o m L S).chain h ≡ None
-  chain_none o h (inl e) = ap (λ x. (meant_by x m L S).chain h) e
-  chain_none o h (inr n) = go (cond o (ground_if m (length L)) None) refl
-    where
-      go : (x : Option Ground) → cond o (ground_if m (length L)) None ≡ x → (meant_by x m L S).chain h ≡ None
-      go None e = refl
-      go (Some g) e = none_told (web_of m L S) (standing o g e).woven h n
 
   -- a chain that was gone along
   pub record Along (o : Bool) (g : Ground) (h r n p : ℕ) : Type 0 where
@@ -91,13 +82,6 @@ mini_unit o m L S = go (cond o (ground_if m (length L)) None)
 pub along_few : (most : ℕ) (m : Store) (ok : Lawful most m) (L S : List ℕ) (few : length L ≤ 4096) (kept : Kept L S) (o : Bool) (g : Ground) (h r n p : ℕ) → Along most m ok L S few kept o g h r n p → n ≤ 4096
 along_few most m ok L S few kept o g h r n p a = omega (arith, a.chained.path, path_short L h _ a.chained.head.path, few)
 
--- a host that was only asked
-pub mini_same : (o : Bool) (m s : Store) (L S : List ℕ) → s ≡ m → mini o s L S ≡ mini o m L S
-mini_same o m s L S e = ap (λ z. mini o z L S) e
-
-pub synced_same : (m s : Store) (L : List ℕ) → s ≡ m → Synced m L → Synced s L
-synced_same m s L e k = rw e k
-
 -- the host without its mini stream's bytes, and those bytes, are the host
 module _ (most : ℕ) (s : Store) (ok : Lawful most s) where
   chain_is : (h : ℕ) → s.chain h ≡ cond (eqb (length (bytes_of s h)) 0) None (Some (bytes_of s h))
@@ -119,11 +103,11 @@ module _ (most : ℕ) (s : Store) (ok : Lawful most s) where
 
   -- the MiniFAT's bytes are those without the mini stream
   pub fat_sealed : (t : ℕ) → Borne s t → bytes_of (sealed s) (fat_at s) ≡ bytes_of s (fat_at s)
-  fat_sealed t b = ⊎_elim (sealed_bytes s) (λ e. gone e ∙ sym (ap (λ o. unwrap_or o []) (ap s.chain e ∙ end_none most s ok))) b.two
+  fat_sealed t b = ⊎_elim (sealed_bytes s) (λ e. gone e ∙ sym (end_bytes most s ok (fat_at s) e)) b.two
     where
       gone : fat_at s ≡ END → bytes_of (sealed s) (fat_at s) ≡ []
       gone e = ⊎_elim (λ (q : fat_at s ≡ stream_at s). ap (λ o. unwrap_or o []) (ap (update eqb s.chain (stream_at s) None) q ∙ update_here s.chain (stream_at s) None))
-          (λ n. ap (λ o. unwrap_or o []) (update_apart s.chain (stream_at s) None (fat_at s) n ∙ ap s.chain e ∙ end_none most s ok)) (cases_eq (fat_at s) (stream_at s))
+          (λ n. ap (λ o. unwrap_or o []) (update_apart s.chain (stream_at s) None (fat_at s) n) ∙ end_bytes most s ok (fat_at s) e) (cases_eq (fat_at s) (stream_at s))
 
 pub kept_sealed : (s : Store) → kept_part (sealed s) ≡ kept_part s
 kept_sealed s = same_notes _ _ refl refl (fun_ext each)

@@ -5,7 +5,8 @@ use Rattle.std.specs.Prelude.{◌≡◌, ℕ, zero, suc, ◌+◌, ◌*◌, ◌%�
 use Rattle.links.specs.Links.{END}
 use Rattle.store.specs.Refusals.{Refused, answer}
 use Rattle.store.specs.Meaning.{Store, Lawful, Begins, due_extend, extended, wrote, worded, entered}
-use Rattle.rooms.specs.Rooms.{Ground, fats_needed, minis_needed}
+use Rattle.rooms.specs.declared.Ground.{Ground}
+use Rattle.rooms.specs.Rooms.{fats_needed, minis_needed}
 use Rattle.mini.specs.Mini.{root_of, stream_at, fat_at}
 
 -- n sectors more at the end of a chain, or as a new chain from END; the answer is its head
@@ -23,7 +24,7 @@ filled (suc n) s layer h rank = filled n (wrote s layer h (rank * s.unit) (repli
 
 -- what is left once the chain was grown: the words tell of it, and the new sectors are filled
 abbrev pub fats_told : Result ℕ Refused → Store → ℕ → ℕ → ℕ → Store
-fats_told (Ok h) s layer had n = filled n (worded s h ((had + n) % 0x100000000)) layer h had
+fats_told (Ok h) s layer had n = filled n (worded s (record { start = h; count = (had + n) % 0x100000000 })) layer h had
 fats_told (Err f) s layer had n = s
 
 -- n sectors more in the MiniFAT; for none, nothing is done

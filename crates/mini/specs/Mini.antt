@@ -6,16 +6,18 @@ use Rattle.std.specs.Option.{option_map}
 use Rattle.links.specs.Bytes.{link_in}
 use Rattle.links.specs.Links.{END, free, at}
 use Rattle.store.specs.declared.entries.Entry.{Entry}
+use Rattle.store.specs.declared.entries.ObjType.TheVariants.{Unallocated}
 use Rattle.store.specs.declared.entries.Words.{Words}
 use Rattle.store.specs.Refusals.{Refused, answer}
 use Rattle.store.specs.Meaning.{Store, Notes, bytes_of, units_of, with_chain, due_head, moved}
 use Rattle.chain.specs.Webs.{Web, stored}
-use Rattle.rooms.specs.Rooms.{Ground, growth}
+use Rattle.rooms.specs.declared.Ground.{Ground}
+use Rattle.rooms.specs.Rooms.{growth}
 use Rattle.mini.specs.declared.Asked.{Asked}
 
 -- the root entry, where the mini stream starts, and where the MiniFAT does
 abbrev pub root_of : Store → Entry
-root_of s = slice_index_or s.notes.entries 0 (record { kind = 0; start = END; length = 0 })
+root_of s = slice_index_or s.notes.entries 0 (record { kind = Unallocated; start = END; length = 0 })
 
 abbrev pub stream_at : Store → ℕ
 stream_at s = (root_of s).start

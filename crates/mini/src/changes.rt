@@ -4,16 +4,23 @@
 ghost use Rattle.mini.specs.Adding.{Grows, AddsFats, AddsMinis, Reserves, filled};
 ghost use Rattle.mini.specs.Mini.{stream_at};
 ghost use Rattle.mini.specs.Steps.{link_wrote, wiped_at, longer_root, shorter_root, occupied, vacated};
-ghost use Rattle.rooms.specs.Meant.{meant};
 ghost use Rattle.store.specs.Meaning.{read_into, wrote};
 ghost use Rattle.store.specs.Refusals.{told};
-ghost use Rattle.std.specs.Prelude.{◌≡◌};
+ghost use Rattle.std.specs.Prelude.{◌≡◌, ◌%◌};
 
-use crate::root;
+use crate::{MINI_SECTOR_LEN, root};
 use links::consts::{END_OF_CHAIN, FREE_SECTOR};
-use rooms::{Ground, need_fats, need_minis};
+use rooms::Ground;
+use store::entries::Words;
 use store::faults::StoreFault;
 use store::stores::{ChainStore, Host};
+
+// A number modulo 2^32, as the fields of 32 bits hold it.
+fn low(number: u64) -> u32
+    ensures { result ≡ number % 0x100000000 }
+{
+    (number % 0x1_0000_0000) as u32
+}
 
 // Writes a link into the MiniFAT.
 pub fn write_link<H: Host>(host: &mut H, place: u32, link: u32)
@@ -45,7 +52,8 @@ pub fn write_stream<H: Host>(host: &mut H, at: u64, src: &[u8])
 pub fn wipe<H: Host>(host: &mut H, place: u32)
     ensures { H.ChainStore.meaning host.new ≡ wiped_at (H.ChainStore.meaning host.old) H.ChainStore.layer place }
 {
-    write_stream(host, u64::from(place) * 64, &[0; 64]);
+    let at = u64::from(place) * u64::from(MINI_SECTOR_LEN);
+    write_stream(host, at, &[0; MINI_SECTOR_LEN as usize]);
 }
 
 // The root is longer by 64 bytes.
@@ -53,8 +61,8 @@ fn lengthen_root<H: Host>(host: &mut H)
     ensures { H.ChainStore.meaning host.new ≡ longer_root (H.ChainStore.meaning host.old) H.ChainStore.layer }
 {
     let entry = root(host);
-    let long = (entry.length % 0x1_0000_0000 + 64) % 0x1_0000_0000;
-    let _ = host.set_entry(0, entry.start, long as u32);
+    let long = low(entry.length).wrapping_add(MINI_SECTOR_LEN);
+    let _ = host.set_entry(0, entry.start, long);
 }
 
 // The root is shorter by 64 bytes for each of so many places.
@@ -62,11 +70,12 @@ pub fn shorten_root<H: Host>(host: &mut H, count: u32)
     ensures { H.ChainStore.meaning host.new ≡ shorter_root (H.ChainStore.meaning host.old) H.ChainStore.layer count }
 {
     let entry = root(host);
-    let long = entry.length.saturating_sub(64 * u64::from(count)) % 0x1_0000_0000;
-    let _ = host.set_entry(0, entry.start, long as u32);
+    let gone = u64::from(MINI_SECTOR_LEN) * u64::from(count);
+    let _ = host.set_entry(0, entry.start, low(entry.length.saturating_sub(gone)));
 }
 
 // A place is taken: where it is fresh the root is longer by 64 bytes; it is linked END, and its mini sector zeroed.
+// Kept: `fresh` is a parameter, as without it take and append of the mini store would each test it and lengthen the root.
 pub fn occupy<H: Host>(host: &mut H, fresh: bool, place: u32)
     ensures { H.ChainStore.meaning host.new ≡ occupied (H.ChainStore.meaning host.old) H.ChainStore.layer fresh place }
 {
@@ -92,10 +101,8 @@ fn grow<H: Host>(host: &mut H, start: u32, count: u32) -> Result<u32, StoreFault
     if start == END_OF_CHAIN {
         return host.begin(count);
     }
-    match host.extend(start, count) {
-        Ok(()) => Ok(start),
-        Err(fault) => Err(fault),
-    }
+    host.extend(start, count)?;
+    Ok(start)
 }
 
 // Fills sectors of a chain with FREE links, from a rank on.
@@ -120,12 +127,16 @@ pub fn add_fats<H: Host>(host: &mut H, count: u32)
     }
     let words = host.words();
     if let Ok(head) = grow(host, words.start, count) {
-        host.set_words(head, words.count.wrapping_add(count));
+        host.set_words(Words {
+            start: head,
+            count: words.count.wrapping_add(count),
+        });
         fill(host, head, words.count, count);
     }
 }
 
 // Adds sectors to the mini stream, and tells the root entry where it starts. A host that refuses stays as it is.
+// Kept: beside add_fats, as words and entry are asked for and set by other calls and only one fills; both share `grow`.
 pub fn add_minis<H: Host>(host: &mut H, count: u32)
     ensures { AddsMinis (H.ChainStore.meaning host.old) H.ChainStore.layer count (H.ChainStore.meaning host.new) }
 {
@@ -134,14 +145,14 @@ pub fn add_minis<H: Host>(host: &mut H, count: u32)
     }
     let entry = root(host);
     if let Ok(head) = grow(host, entry.start, count) {
-        let _ = host.set_entry(0, head, (entry.length % 0x1_0000_0000) as u32);
+        let _ = host.set_entry(0, head, low(entry.length));
     }
 }
 
 // Adds the sectors for a whole growth: first those of the MiniFAT, then those of the mini stream.
 pub fn reserve<H: Host>(host: &mut H, g: Ground, more: u32)
-    ensures { Reserves H.ChainStore.most (H.ChainStore.meaning host.old) H.ChainStore.layer (meant g) more (H.ChainStore.meaning host.new) }
+    ensures { Reserves H.ChainStore.most (H.ChainStore.meaning host.old) H.ChainStore.layer g more (H.ChainStore.meaning host.new) }
 {
-    add_fats(host, (need_fats(g, more) % 0x1_0000_0000) as u32);
-    add_minis(host, (need_minis(g, more) % 0x1_0000_0000) as u32);
+    add_fats(host, low(g.need_fats(more)));
+    add_minis(host, low(g.need_minis(more)));
 }

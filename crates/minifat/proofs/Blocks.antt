@@ -1,34 +1,23 @@
 -- A chain is read block by block.
 -- Assumes nothing.
-use Rattle.std.proofs.Common.{◌≡◌, ℕ, ◌+◌, ◌-◌, ◌*◌, ◌/◌, ◌<◌, ◌≤◌, Bool, true, false, cond, ltb, List, ◌++◌, length, get_or, take, drop, Some, None, Ok, Err, fold, Option, Result, sym, refl, ap, ◌∙◌, ⊎_elim, arith}
+use Rattle.std.proofs.Common.{◌≡◌, ℕ, ◌+◌, ◌-◌, ◌*◌, ◌/◌, ◌<◌, ◌≤◌, Bool, true, false, cond, List, ◌++◌, length, get_or, take, drop, Some, None, Ok, fold, Option, sym, refl, ap, ◌∙◌, ⊎_elim, arith}
 use Rattle.std.proofs.iter.runs.Lists.{fold-append}
 use Rattle.std.proofs.lemmas.List.FromFn.{length-map-range_with_len, get_or-map-range_with_len}
 use Rattle.std.proofs.lemmas.List.{length-append, get_or_append_left, get_or-append_right, same_lists, length-take-le, take-take, take-append-drop, drop-take}
-use Rattle.std.proofs.lemmas.Bool.{cases_lt, ltb-true, ltb-false, lt-ltb, ne_eqb, cond-true, cond-false}
+use Rattle.std.proofs.lemmas.Bool.{cases_lt, ltb-false, ne_eqb, cond-false}
 use Rattle.links.specs.Bytes.{link_in}
 use Rattle.store.specs.Refusals.{Refused, answer, unless}
-use Rattle.store.specs.Meaning.{Store, bytes_of, headed, refuse, due_copy, read_into}
+use Rattle.store.specs.Meaning.{Store, bytes_of, headed, due_copy, read_into}
+use Rattle.mini.proofs.Links.{link_left}
 use Rattle.minifat.specs.Gathered.{Gathering, none, added, gathered, due_blocks}
 use Rattle.minifat.specs.Table.{all_links}
 
 -- what an answer says of the refusal that is due
 pub answer_due : {A : Type 0} (due : Option Refused) (x v : A) → Ok x ≡ answer due v → due ≡ None
 answer_due None x v e = refl
-answer_due (Some f) x v e = absurd (let z : ◌≡◌ {A = ℕ} 0 1 = cc in omega arith)
-
-refusal_due : {A : Type 0} (due : Option Refused) (f : Refused) (v : A) → Err f ≡ answer due v → due ≡ Some f
-refusal_due None f v e = absurd (let z : ◌≡◌ {A = ℕ} 0 1 = cc in omega arith)
-refusal_due (Some g) f v e = cc
+answer_due (Some f) x v e = cc
 
 -- links of bytes that are laid end to end
-link_left : (xs ys : List ℕ) (n k : ℕ) → length xs ≡ 4 * n → k < n → link_in (xs ++ ys) k ≡ link_in xs k
-link_left xs ys n k e l = rw (
-  get_or_append_left xs ys 0 (4 * k) (omega arith),
-  get_or_append_left xs ys 0 (4 * k + 1) (omega arith),
-  get_or_append_left xs ys 0 (4 * k + 2) (omega arith),
-  get_or_append_left xs ys 0 (4 * k + 3) (omega arith),
-) refl
-
 link_right : (xs ys : List ℕ) (n k : ℕ) → length xs ≡ 4 * n → n ≤ k → link_in (xs ++ ys) k ≡ link_in ys (k - n)
 link_right xs ys n k e l =
     let a : 4 * k - 4 * n ≡ 4 * (k - n) = omega arith in
@@ -62,7 +51,7 @@ links_append xs ys n e = same_lists _ _ (omega (arith, whole, left, right, lengt
     each k d l =
         get_or-map-range_with_len (link_in (xs ++ ys)) 0 _ k k d (omega (arith, whole, length-append xs ys)) (omega arith)
         ∙ ⊎_elim
-        (λ b. link_left xs ys n k e b
+        (λ b. link_left xs ys k (omega arith)
         ∙ sym (get_or_append_left (all_links xs) (all_links ys) d k (omega (arith, left)) ∙ get_or-map-range_with_len (link_in xs) 0 _ k k d (omega arith) (omega arith)))
         (λ b. link_right xs ys n k e b
         ∙ sym (get_or-append_right (all_links xs) (all_links ys) n k d left b ∙ get_or-map-range_with_len (link_in ys) 0 _ (k - n) (k - n) d (omega (arith, whole)) (omega arith)))
@@ -75,21 +64,12 @@ pub record Reading (s t : Store) (layer h n : ℕ) (g : Gathering) : Type 0 wher
   pub all : g ≡ gathered (all_links (take (n * 512) (bytes_of s h)))
 
 headed-none : (o : Option (List ℕ)) (layer h : ℕ) (due : Option Refused) → headed o layer h due ≡ None → due ≡ None
-headed-none None layer h due e = absurd (let z : ◌≡◌ {A = ℕ} 0 1 = cc in omega arith)
+headed-none None layer h due e = cc
 headed-none (Some xs) layer h due e = e
 
 past_none : (b : Bool) (f : Refused) → cond b (Some f) None ≡ None → b ≡ false
-past_none true f e = absurd (let z : ◌≡◌ {A = ℕ} 0 1 = cc in omega arith)
+past_none true f e = cc
 past_none false f e = refl
-
-past_some : (n a b : ℕ) (t : Bool) (f g : Refused) → ltb n a ≡ t → a ≤ b → cond t (Some f) None ≡ Some g → cond (ltb n b) (Some f) None ≡ Some g
-past_some n a b true f g t l e = cond-true _ _ _ (lt-ltb n b (omega (arith, ltb-true n a t))) ∙ e
-past_some n a b false f g t l e = absurd (let z : ◌≡◌ {A = ℕ} 0 1 = cc in omega arith)
-
-headed_past : (o : Option (List ℕ)) (layer h n a b : ℕ) (g : Refused) → a ≤ b
-    → headed o layer h (cond (ltb n a) (refuse 15 layer h) None) ≡ Some g → headed o layer h (cond (ltb n b) (refuse 15 layer h) None) ≡ Some g
-headed_past None layer h n a b g l e = e
-headed_past (Some xs) layer h n a b g l e = past_some n a b (ltb n a) _ g refl l e
 
 -- blocks of the chain of h are read, rising
 module _ (s : Store) (layer h : ℕ) where
@@ -128,11 +108,3 @@ module _ (s : Store) (layer h : ℕ) where
       joined =
           let e : (k + 1) * 512 ≡ k * 512 + 512 = omega arith in
           rw (e, ← drop-take (k * 512) 512 (bytes_of s h), ← take-take (k * 512) (k * 512 + 512) (bytes_of s h) (omega arith)) (take-append-drop (k * 512) (take (k * 512 + 512) (bytes_of s h)))
-
-  -- a block is refused, and with it all that are asked for
-  pub block_stop : (t : Store) (k at n : ℕ) (g : Gathering) (out : List ℕ) (f : Refused) → Reading s t layer h k g → at ≡ k * 512 → length out ≡ 512 → k < n
-      → ◌≡◌ {A = Result (Unit {0}) Refused} (Err f) (answer {A = Unit {0}} (due_copy t layer h (at + length out)) tt) → due_blocks s layer h n ≡ Some f
-  block_stop t k at n g out f r a z l e =
-      cond-false _ _ _ (ne_eqb n 0 (omega arith))
-      ∙ headed_past (s.chain h) layer h _ (at + length out) (n * 512) f (omega arith)
-      (ap (λ x. due_copy x layer h (at + length out)) (sym r.left) ∙ refusal_due {A = Unit {0}} _ f tt e)

@@ -1,21 +1,23 @@
 -- The sectors of a chain, as a host tells them.
 -- Assumes nothing.
-use Rattle.std.proofs.Common.{◌≡◌, ℕ, ◌*◌, ◌/◌, ◌<◌, ◌≤◌, Bool, true, false, cond, ◌&&◌, eqb, ◌≢◌, List, [], ◌∷◌, length, take, Some, None, Ok, Err, Option, Result, unwrap_or, sym, refl, ap, ◌∙◌, ⊎_elim, mul_assoc, mul-le-mul, zero-mul, arith}
+use Rattle.std.proofs.Common.{◌≡◌, ℕ, ◌*◌, ◌<◌, ◌≤◌, Bool, true, false, cond, ◌&&◌, eqb, ◌≢◌, List, length, take, Some, None, Ok, Err, Option, Result, refl, ap, ◌∙◌, ⊎_elim, mul_assoc, mul-le-mul, zero-mul, MatchResult, arith}
+use Rattle.std.proofs.Math.Nat.{mul-pos}
 use Rattle.std.proofs.lemmas.List.{take_all}
 use Rattle.std.proofs.lemmas.Bool.{cases_eq, and_parts, eqb-true, le-ltb, eq-eqb, ne_eqb, cond-true, cond-false}
 use Rattle.links.specs.Links.{END}
-use Rattle.store.specs.declared.faults.Refusal.{Refusal}
+use Rattle.store.specs.declared.faults.Fault.{Fault}
 use Rattle.store.specs.declared.faults.StoreFault.{StoreFault}
 use Rattle.store.specs.Refusals.{told, answer}
 use Rattle.store.specs.Meaning.{Store, Lawful, bytes_of, units_of, headed, due_head, due_copy}
 use Rattle.mini.specs.Mini.{sectors_of}
+use Rattle.mini.proofs.Figures.{end_units, whole_units, units_few}
+use Rattle.mini.proofs.States.{some_chain}
 use Rattle.minifat.specs.Gathered.{due_blocks}
-use Rattle.minifat.specs.Told.{carried_by}
 
--- an answer that was carried is the store's
-pub carried_told : {A : Type 0} (k : Refusal) (r : Result A StoreFault) (x : A) → Ok x ≡ carried_by k r → told r ≡ Ok x
-carried_told k (Ok y) x e = let z : y ≡ x = cc in ap Ok z
-carried_told k (Err f) x e = absurd (let z : ◌≡◌ {A = ℕ} 0 1 = cc in omega arith)
+-- an answer whose refusal would have been another fault is the store's
+pub mapped_told : {A : Type 0} (r : Result A StoreFault) (x : A) → MatchResult r (λ y. ◌≡◌ {A = Result A Fault} (Ok x) (Ok y)) (λ f. ⊥) → told r ≡ Ok x
+mapped_told (Ok y) x e = cc
+mapped_told (Err f) x e = absurd e
 
 -- n sectors are told of the chain of h
 module _ (most : ℕ) (s : Store) (ok : Lawful most s) (layer h : ℕ) where
@@ -24,29 +26,25 @@ module _ (most : ℕ) (s : Store) (ok : Lawful most s) (layer h : ℕ) where
     pub whole : n * s.unit ≡ length (bytes_of s h)
     pub copied : 0 < n → due_copy s layer h (n * s.unit) ≡ None
 
-  -- none, and no chain
-  none_lies : (n : ℕ) (o : Option (List ℕ)) → s.chain h ≡ o → h ≡ END → n ≡ 0 → Lies n
-  none_lies n None c e z = record { few = omega arith; whole = rw (z, c) (zero-mul s.unit); copied = λ l. absurd (omega arith) }
-  none_lies n (Some xs) c e z = absurd (omega (arith, (ok.chains h xs c).head))
-
-  chain_lies : (n : ℕ) (o : Option (List ℕ)) → s.chain h ≡ o → Ok n ≡ answer (headed o layer h None) (length (unwrap_or o []) / s.unit) → Lies n
-  chain_lies n None c e = absurd (let z : ◌≡◌ {A = ℕ} 0 1 = cc in omega arith)
-  chain_lies n (Some xs) c e =
-      let z : n ≡ length xs / s.unit = cc in
-      let w : n * s.unit ≡ length xs = ap (λ m. m * s.unit) z ∙ (ok.chains h xs c).whole in
-      let u : units_of s h ≡ n = ap (λ o. length (unwrap_or o []) / s.unit) c ∙ sym z in
-      record {
-        few = omega (arith, ok.within (h ∷ []) ((λ i. i), tt), ok.few);
-        whole = w ∙ ap (λ o. length (unwrap_or o [])) (sym c);
-        copied = λ l. rw c (cond-false _ _ _ (le-ltb (length xs) (n * s.unit) (omega arith)));
-      }
-
   pub sectors_lie : (none : Bool) (n : ℕ) → Ok n ≡ sectors_of s layer h none → Lies n
-  sectors_lie none n e = go (none && eqb h END) refl e
+  sectors_lie none n e =
+      let w : n * s.unit ≡ length (bytes_of s h) = ap (λ m. m * s.unit) units ∙ whole_units most s ok h in
+      record {
+        few = omega (arith, units, units_few most s ok h);
+        whole = w;
+        copied = λ l. rw (some_chain s h (omega (arith, w, mul-pos l ok.unit))) (cond-false _ _ _ (le-ltb (length (bytes_of s h)) (n * s.unit) (omega (arith, w))));
+      }
     where
-      go : (b : Bool) → (none && eqb h END) ≡ b → Ok n ≡ cond b (Ok 0) (answer (due_head s layer h) (units_of s h)) → Lies n
-      go true p q = let z : n ≡ 0 = cc in none_lies n (s.chain h) refl (eqb-true h END (and_parts none (eqb h END) p).1) z
-      go false p q = chain_lies n (s.chain h) refl q
+      told_units : (o : Option (List ℕ)) → Ok n ≡ answer (headed o layer h None) (units_of s h) → n ≡ units_of s h
+      told_units None q = cc
+      told_units (Some xs) q = cc
+
+      go : (b : Bool) → (none && eqb h END) ≡ b → Ok n ≡ cond b (Ok 0) (answer (due_head s layer h) (units_of s h)) → n ≡ units_of s h
+      go true p q = let u = end_units most s ok h (eqb-true h END (and_parts none (eqb h END) p).1) in cc
+      go false p q = told_units (s.chain h) q
+
+      units : n ≡ units_of s h
+      units = go (none && eqb h END) refl e
 
   -- a length within them
   pub length_few : (none : Bool) (n : ℕ) → Ok n ≡ sectors_of s layer h none → (u m v long : ℕ) → u ≡ s.unit → m ≡ n → v ≡ u → long ≤ m * v → long ≤ 16777216

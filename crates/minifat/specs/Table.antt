@@ -10,6 +10,7 @@ use Rattle.links.specs.Check.{number_of, place_of, verdict}
 use Rattle.links.specs.Held.{links_of}
 use Rattle.links.specs.Stack.{trimmed}
 use Rattle.store.specs.declared.entries.Words.{Words}
+use Rattle.store.specs.Kinds.{byte_of}
 use Rattle.store.specs.Refusals.{Refused}
 use Rattle.store.specs.Meaning.{Store, bytes_of}
 use Rattle.mini.specs.Mini.{root_of, stream_at, fat_at, sectors_of}
@@ -64,7 +65,7 @@ fat_of s layer = before (words_of_fat s layer) (λ w. trimmed_of (all_links (byt
 -- 10: kind, multiple of 64, chain absent, length over the chain; else the mini sectors that the root length has
 abbrev pub minis_of : Store → ℕ → Result ℕ Faulted
 minis_of s layer =
-    row (not ((root_of s).kind == 5)) 10 (
+    row (not (byte_of (root_of s).kind == 5)) 10 (
     row (not ((root_of s).length % 64 == 0)) 10 (
     asking (sectors_of s layer (stream_at s) ((root_of s).length == 0)) 10 (λ n.
     row (nat_lt (n * s.unit) (root_of s).length) 10 (

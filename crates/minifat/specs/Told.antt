@@ -1,6 +1,6 @@
 -- Faults of the layers above a store, by their numbers.
 -- Assumes nothing.
-use Rattle.std.specs.Prelude.{ℕ, Some, Ok, Err, Option, Result}
+use Rattle.std.specs.Prelude.{ℕ, Ok, Err, Option, Result}
 use Rattle.std.specs.Option.{option_map}
 use Rattle.store.specs.declared.faults.Fault.{Fault}
 use Rattle.store.specs.declared.faults.Refusal.{Refusal}
@@ -26,8 +26,3 @@ told_of f (Err e) = Err (fault_of e)
 -- a fault of the mini store, at no place of its own
 abbrev pub fault_by : Refusal → Option StoreFault → Fault
 fault_by k f = record { refusal = k; layer = 3; place = 0; lower = f }
-
--- what a store told, its refusal carried as the cause of such a fault
-abbrev pub carried_by : {A : Type 0} → Refusal → Result A StoreFault → Result A Fault
-carried_by k (Ok x) = Ok x
-carried_by k (Err f) = Err (fault_by k (Some f))

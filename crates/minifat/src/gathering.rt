@@ -16,7 +16,7 @@ use store::stores::ChainStore;
 pub const BLOCK: u32 = 512;
 
 // The first 4,096 links, and how many of all there are up to the last that is not FREE; 4,097 stands for all above.
-#[derive(Clone, Copy)]
+#[derive(Drop)]
 pub struct Gathered {
     pub links: Links,
     pub used: u32,
@@ -47,10 +47,9 @@ impl Gathered {
     pub fn add_block(&mut self, block: &[u8])
         ensures { gathering_of self.new ≡ fold added (gathering_of self.old) (all_links block.now) }
     {
-        for place in 0..block.len() / 4 {
-            let at = 4 * place;
-            let link = [block[at], block[at + 1], block[at + 2], block[at + 3]];
-            self.add(u32::from_le_bytes(link));
+        let (links, _) = block.as_chunks::<4>();
+        for link in links {
+            self.add(u32::from_le_bytes(*link));
         }
     }
 }

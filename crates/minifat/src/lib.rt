@@ -3,13 +3,13 @@
 
 #![tactic(auto)]
 
-ghost use Rattle.links.specs.Check.{verdict};
+ghost use Rattle.links.specs.Check.{number_of, place_of};
 ghost use Rattle.links.specs.Held.{links_of};
 ghost use Rattle.links.specs.Stack.{free_places};
 ghost use Rattle.minifat.specs.Gathered.{gathering_of, gathered_fat};
-ghost use Rattle.minifat.specs.Table.{strictly, table_in, words_of_fat, fat_of, minis_of, checked_by, table_of};
-ghost use Rattle.minifat.specs.Told.{told_of, fault_by, carried_by};
-ghost use Rattle.std.specs.Prelude.{◌≡◌, ◌*◌, IfOk};
+ghost use Rattle.minifat.specs.Table.{strictly, table_in, words_of_fat, fat_of, minis_of, table_of};
+ghost use Rattle.minifat.specs.Told.{fault_of, told_of, fault_by};
+ghost use Rattle.std.specs.Prelude.{◌≡◌, ◌*◌, None, IfOk};
 
 use crate::gathering::{BLOCK, Gathered, gather};
 use links::LinkTable;
@@ -17,14 +17,12 @@ use links::checks::LinkFault;
 use links::consts::MOST_LINKS;
 use links::held::Links;
 use links::stacked::Stacked;
-use store::entries::{OBJ_TYPE_ROOT, Words};
+use mini::{LAYER, MINI_SECTOR_LEN, root, sectors};
+use store::entries::Words;
 use store::faults::{Fault, Refusal, StoreFault};
 use store::stores::{ChainStore, Host};
 
 mod gathering;
-
-// The mini store's layer.
-const LAYER: u8 = 3;
 
 // How strictly a file is read (cfb's name): permissive, a table that is longer than the mini stream is shortened.
 #[derive(Clone, Copy, PartialEq, Eq, Debug)]
@@ -38,10 +36,7 @@ impl Validation {
     pub fn is_strict(self) -> bool
         ensures { result ≡ strictly self }
     {
-        match self {
-            Validation::Permissive => false,
-            Validation::Strict => true,
-        }
+        self == Validation::Strict
     }
 }
 
@@ -57,22 +52,22 @@ fn fault(refusal: Refusal, lower: Option<StoreFault>) -> Fault
     }
 }
 
-// What a store told, its refusal carried as the cause of another.
-fn carry<T>(told: Result<T, StoreFault>, refusal: Refusal) -> Result<T, Fault>
-    ensures { result ≡ carried_by refusal told }
+// The fault of a table that the check refuses, at the place that it tells.
+// Kept: a function, and no From, as both types are of crates below and Rust has that impl stand where one of them is.
+fn refused(of: LinkFault) -> Fault
+    ensures { fault_of result ≡ record { number = number_of of; layer = 3; place = place_of of; lower = None } }
 {
-    match told {
-        Ok(answer) => Ok(answer),
-        Err(lower) => Err(fault(refusal, Some(lower))),
+    Fault {
+        place: of.place(),
+        ..fault(Refusal::from(of), None)
     }
 }
 
-// How many blocks a sector has. The host is asked for its entries as that question ensures units of 512 or 4,096 bytes.
+// How many blocks a sector has.
 fn sector_blocks<H: Host>(host: &mut H) -> u32
     ensures told { result * 512 ≡ (H.ChainStore.meaning host.old).unit }
     ensures left { H.ChainStore.meaning host.new ≡ H.ChainStore.meaning host.old }
 {
-    let _ = host.entries();
     host.unit() / BLOCK
 }
 
@@ -82,8 +77,8 @@ fn fat_words<H: Host>(host: &mut H) -> Result<Words, Fault>
     ensures left { H.ChainStore.meaning host.new ≡ H.ChainStore.meaning host.old }
 {
     let words = host.words();
-    let found = mini::sectors(host, words.start, words.count == 0);
-    let count = carry(found, Refusal::BadMinifat)?;
+    let found = sectors(host, words.start, u64::from(words.count));
+    let count = found.map_err(|lower| fault(Refusal::BadMinifat, Some(lower)))?;
     if count != words.count {
         return Err(fault(Refusal::BadMinifat, None));
     }
@@ -98,7 +93,7 @@ fn fat_gathered<H: Host>(host: &mut H) -> Result<Gathered, Fault>
     let words = fat_words(host)?;
     let blocks = words.count * sector_blocks(host);
     let read = gather(host, words.start, blocks);
-    carry(read, Refusal::BadMinifat)
+    read.map_err(|lower| fault(Refusal::BadMinifat, Some(lower)))
 }
 
 // The links of the MiniFAT, without the trailing FREE ones.
@@ -119,35 +114,16 @@ fn mini_sectors<H: Host>(host: &mut H) -> Result<u32, Fault>
     ensures told { told_of (λ n. n) result ≡ minis_of (H.ChainStore.meaning host.old) H.ChainStore.layer }
     ensures left { H.ChainStore.meaning host.new ≡ H.ChainStore.meaning host.old }
 {
-    let root = mini::root(host);
-    if root.kind != OBJ_TYPE_ROOT || root.length % 64 != 0 {
+    let root = root(host);
+    if !root.kind.is_root() || root.length % u64::from(MINI_SECTOR_LEN) != 0 {
         return Err(fault(Refusal::BadRoot, None));
     }
-    let found = mini::sectors(host, root.start, root.length == 0);
-    let count = carry(found, Refusal::BadRoot)?;
+    let found = sectors(host, root.start, root.length);
+    let count = found.map_err(|lower| fault(Refusal::BadRoot, Some(lower)))?;
     if u64::from(count) * u64::from(host.unit()) < root.length {
         return Err(fault(Refusal::BadRoot, None));
     }
-    Ok((root.length / 64) as u32)
-}
-
-// Checks a table, and lays its FREE places on a stack.
-fn load(links: Links) -> Result<Stacked, Fault>
-    ensures told { told_of table_in result ≡ checked_by (verdict (links_of links)) (links_of links) }
-    ensures stack { IfOk result (λ s. links_of s.stack ≡ free_places (table_in s)) }
-{
-    match Stacked::load(links) {
-        Ok(table) => Ok(table),
-        Err(fault) => Err(Fault {
-            refusal: match fault {
-                LinkFault::Dangling(_) => Refusal::DanglingPointer,
-                LinkFault::Shared(_) => Refusal::SharedPointer,
-            },
-            layer: LAYER,
-            place: fault.place(),
-            lower: None,
-        }),
-    }
+    Ok((root.length / u64::from(MINI_SECTOR_LEN)) as u32)
 }
 
 // The table that a host holds, or why it holds none that a mini store could use.
@@ -162,5 +138,5 @@ pub fn read_table<H: Host>(host: &mut H, validation: Validation) -> Result<Stack
         return Err(fault(Refusal::TableOverRoot, None));
     }
     links.truncate(minis);
-    load(links)
+    Stacked::load(links).map_err(refused)
 }
