@@ -1,5 +1,5 @@
 pub mod Copies
 pub mod Growing
+pub mod Lasting
 pub mod Openings
-pub mod Refusals
 pub mod Shrinking

@@ -1,42 +1,56 @@
 -- The state of a mini store, and what its calls make of it: of the host's meaning, of the table and of the stack.
 -- Assumes nothing.
-use Rattle.std.specs.Prelude.{◌≡◌, ℕ, ◌-◌, Bool, List, length, Ok, Err, count_by, Result, slice_index}
-use Rattle.links.specs.Held.{links_of}
+use Rattle.std.specs.Prelude.{◌≡◌, ℕ, ◌-◌, Bool, true, if◌then◌else◌, List, [], length, is_some, Some, None, Ok, Err, count_by, Option, Result, slice_index}
 use Rattle.links.specs.Links.{free}
 use Rattle.links.specs.Stack.{place_after}
+use Rattle.links.specs.Stacked.{table_of, stack_of}
 use Rattle.links.specs.Walk.{last_or}
+use Rattle.links.specs.declared.stacked.Stacked.{Stacked}
 use Rattle.store.specs.Refusals.{Refused}
 use Rattle.store.specs.Meaning.{Store}
 use Rattle.chain.specs.Units.{Wrote}
 use Rattle.chain.specs.Webs.{Web, path_of, viewed, lengthened, released, shortened}
+use Rattle.rooms.specs.declared.Ground.{Ground}
 use Rattle.mini.specs.Adding.{Reserves}
-use Rattle.mini.specs.Mini.{ground_of, web_of, mini, Synced}
+use Rattle.mini.specs.Mini.{ground_of, ground_if, Borne, web_of, mini, Synced}
 use Rattle.mini.specs.Steps.{took_mini, put_mini, ended_mini, gave_mini, Trims}
 use Rattle.minialloc.specs.declared.MiniStore.{MiniStore}
 
--- whether it is open, what its host means, its table and its stack
+-- whether it is open, what its host means, its table and its stack; shut it has neither link nor place
 pub record State : Type 0 where
   pub opened : Bool
   pub host : Store
   pub links : List ℕ
   pub stack : List ℕ
 
+abbrev pub links_in : Option Stacked → List ℕ
+links_in None = []
+links_in (Some t) = table_of t
+
+abbrev pub stack_in : Option Stacked → List ℕ
+stack_in None = []
+stack_in (Some t) = stack_of t
+
 abbrev pub state_of : {X : Type 0} → (X → Store) → MiniStore X → State
-state_of meaning m = record { opened = m.opened; host = meaning m.host; links = links_of m.table.links; stack = links_of m.table.stack }
+state_of meaning m = record { opened = is_some m.table; host = meaning m.host; links = links_in m.table; stack = stack_in m.table }
 
--- what its host means; and the rest of it
-abbrev pub host_of : {X : Type 0} → (X → Store) → MiniStore X → Store
-host_of meaning m = meaning m.host
-
-abbrev pub own_of : {X : Type 0} → MiniStore X → Bool × List ℕ × List ℕ
-own_of m = (m.opened, links_of m.table.links, links_of m.table.stack)
+-- the figures that room is reckoned from; nothing where it is shut, or the host does not bear the table out
+abbrev pub figures_in : State → Option Ground
+figures_in s = if s.opened then ground_if s.host (length s.links) else None
 
 -- what it means as a chain store, and its mini sectors as units that the table links
 abbrev pub meant_in : State → Store
 meant_in s = mini s.opened s.host s.links s.stack
 
+abbrev pub mini_of : {X : Type 0} → (X → Store) → MiniStore X → Store
+mini_of meaning m = meant_in (state_of meaning m)
+
 abbrev pub web_in : State → Web
 web_in s = web_of s.host s.links s.stack
+
+-- what those units rest on: it is open, and the host bears the table out
+abbrev pub Sound : State → Type 0
+Sound s = (s.opened ≡ true) × Borne s.host (length s.links)
 
 -- the MiniFAT's bytes are the links of its table
 abbrev pub SyncedIn : State → Type 0

@@ -1,33 +1,31 @@
 //! The mini store as a chain store: its own calls, as the interface has them.
 
-ghost use Rattle.links.specs.Held.{links_of};
-ghost use Rattle.mini.proofs.Laws.{stacked_lawful};
-ghost use Rattle.minialloc.specs.States.{state_of, meant_in, SyncedIn};
+ghost use Rattle.minialloc.specs.Laws.{lawful_in};
+ghost use Rattle.minialloc.specs.States.{state_of, mini_of, SyncedIn};
 
 use crate::MiniStore;
+use links::consts::MOST_LINKS;
+use mini::MINI_SECTOR_LEN;
 use store::faults::StoreFault;
 use store::stores::{ChainStore, Host};
 
-// The bytes of a mini sector.
-const UNIT: u32 = 64;
-
 impl<H: Host> ChainStore for MiniStore<H> {
-    const LAYER: u8 = 3;
+    const LAYER: u8 = mini::LAYER;
 
-    const MOST: u32 = 4096;
+    const MOST: u32 = MOST_LINKS;
 
-    ghost meaning = { λ m. meant_in (state_of H.ChainStore.meaning m) };
+    ghost meaning = { mini_of H.ChainStore.meaning };
 
     ghost layer = { 3 };
 
     ghost most = { 4096 };
 
-    ghost lawful = { λ m. stacked_lawful m.table (H.ChainStore.meaning m.host) H.ChainStore.most m.opened (H.ChainStore.lawful m.host) };
+    ghost lawful = { λ m. lawful_in m.table (H.ChainStore.meaning m.host) H.ChainStore.most (H.ChainStore.lawful m.host) };
 
     ghost sound = { λ m. SyncedIn (state_of H.ChainStore.meaning m) };
 
     fn unit(&mut self) -> u32 {
-        UNIT
+        MINI_SECTOR_LEN
     }
 
     fn room(&mut self) -> u32 {

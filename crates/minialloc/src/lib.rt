@@ -1,22 +1,20 @@
 //! The mini store: chains of mini sectors of 64 bytes, linked by the MiniFAT, inside any host.
 //!
-//! It keeps its table and whether it is open, and asks the host for all else at every call. Where the host does not bear the
-//! table out, a mini store means what a shut one means, so no call asks anything of its caller.
+//! It keeps its table, which it has while it is open, and asks the host for all else at every call. Where the host does not
+//! bear the table out, a mini store means what a shut one means, so no call asks anything of its caller.
 
 #![tactic(auto)]
 
-ghost use Rattle.links.specs.Held.{links_of};
-ghost use Rattle.mini.specs.Mini.{ground_if};
 ghost use Rattle.minialloc.specs.Looks.{Looks};
-ghost use Rattle.rooms.specs.Meant.{meant};
+ghost use Rattle.minialloc.specs.States.{state_of, figures_in};
+ghost use Rattle.rooms.specs.Rooms.{growth};
 ghost use Rattle.std.specs.Option.{option_map};
-ghost use Rattle.std.specs.Prelude.{◌≡◌, ◌+◌, ◌*◌, true, length, if◌then◌else◌, None, nat_le};
-ghost use Rattle.store.specs.Meaning.{Hosted};
+ghost use Rattle.std.specs.Prelude.{◌≡◌, ◌+◌, ◌*◌, length, nat_le};
 
 use links::LinkTable;
 use links::stacked::Stacked;
-use links::walks::survey;
-use mini::ground;
+use links::walks::{Surveyed, survey};
+use mini::{LAYER, MINI_SECTOR_LEN, ground};
 use rooms::Ground;
 use store::faults::{Refusal, StoreFault};
 use store::stores::{ChainStore, Host};
@@ -27,80 +25,63 @@ pub mod hosts;
 pub mod opening;
 mod units;
 
-// The layer of a mini store, which its faults name.
-const LAYER: u8 = 3;
-
-// The bytes of a mini sector.
-const UNIT: u32 = 64;
-
-// A host, and the table with its stack.
+// A host, and while it is open the table with its stack.
 #[derive(Drop)]
 pub struct MiniStore<H: Host> {
     host: H,
-    table: Stacked,
-    opened: bool,
+    table: Option<Stacked>,
 }
 
-// A refusal of the mini store.
-fn fault(refusal: Refusal, place: u32) -> StoreFault
-    ensures { result ≡ record { refusal = refusal; layer = 3; place = place } }
-{
-    StoreFault {
-        refusal,
-        layer: LAYER,
-        place,
-    }
-}
-
-// The figures that room is reckoned from; nothing where the mini store is shut, or the host does not bear the table out.
-fn figures<H: Host>(host: &mut H, table: &Stacked, opened: bool) -> Option<Ground>
-    ensures told { option_map meant result ≡ (if opened then ground_if (H.ChainStore.meaning host.old) (length (links_of table.now.links)) else None) }
-    ensures hosted { opened ≡ true → Hosted (H.ChainStore.meaning host.old) }
-    ensures left { H.ChainStore.meaning host.new ≡ H.ChainStore.meaning host.old }
-{
-    if !opened {
-        return None;
-    }
-    ground(host, table.links().count())
-}
-
-// Whether so many bytes from an offset on lie within so many units.
-fn holds(units: u32, at: u64, count: usize) -> bool
-    ensures { result ≡ nat_le (at + count) (units * 64) }
-{
-    let long = u64::from(units) * u64::from(UNIT);
-    count as u64 <= long && at <= long - count as u64
-}
-
-// A chain that was gone along once: its units, the place at a rank or its last, and the figures of the host.
+// A chain that was gone along once: its units and the place at a rank or its last, with the figures of the host.
 #[derive(Clone, Copy)]
 struct Found {
-    units: u32,
-    place: u32,
+    chain: Surveyed,
     ground: Ground,
 }
 
-// Goes along the chain of a head.
-fn look<H: Host>(
-    host: &mut H,
-    table: &Stacked,
-    opened: bool,
-    head: u32,
-    rank: u32,
-) -> Result<Found, StoreFault>
-    ensures told { Looks (if opened then ground_if (H.ChainStore.meaning host.old) (length (links_of table.now.links)) else None) (links_of table.now.links) head rank result }
-    ensures hosted { opened ≡ true → Hosted (H.ChainStore.meaning host.old) }
-    ensures left { H.ChainStore.meaning host.new ≡ H.ChainStore.meaning host.old }
-{
-    let Some(ground) = figures(host, table, opened) else {
-        return Err(fault(Refusal::NotHead, head));
-    };
-    match survey(table.links(), head, rank) {
-        Some(chain) => Ok(Found {
-            units: chain.units,
-            place: chain.place,
-            ground,
-        }),
-        None => Err(fault(Refusal::NotHead, head)),
+impl Found {
+    // Whether so many bytes from an offset on lie within the chain.
+    fn holds(self, at: u64, count: usize) -> bool
+        ensures { result ≡ nat_le (at + count) (self.chain.units * 64) }
+    {
+        let long = u64::from(self.chain.units) * u64::from(MINI_SECTOR_LEN);
+        count as u64 <= long && at <= long - count as u64
+    }
+}
+
+impl<H: Host> MiniStore<H> {
+    // The figures that room is reckoned from; nothing where it is shut, or the host does not bear the table out.
+    fn figures(&mut self) -> Option<Ground>
+        ensures told { result ≡ figures_in (state_of H.ChainStore.meaning self.old) }
+        ensures left { state_of H.ChainStore.meaning self.new ≡ state_of H.ChainStore.meaning self.old }
+    {
+        let table = self.table.as_ref()?;
+        ground(&mut self.host, table.links().count())
+    }
+
+    // How many places of the table are FREE.
+    fn free_places(&self) -> u32
+        ensures { result ≡ length (state_of H.ChainStore.meaning self.now).stack }
+    {
+        self.table.as_ref().map_or(0, |table| table.free())
+    }
+
+    // The mini sectors that can still be given, over such figures: the FREE places, and the most that the table can grow by.
+    fn room_over(&self, ground: Ground) -> u32
+        ensures { result ≡ length (state_of H.ChainStore.meaning self.now).stack + growth ground }
+    {
+        self.free_places() + ground.growth()
+    }
+
+    // Goes along the chain of a head.
+    fn look(&mut self, head: u32, rank: u32) -> Result<Found, StoreFault>
+        ensures told { Looks (state_of H.ChainStore.meaning self.old) head rank result }
+        ensures left { state_of H.ChainStore.meaning self.new ≡ state_of H.ChainStore.meaning self.old }
+    {
+        let no_head = Refusal::NotHead.at(LAYER, head);
+        let ground = self.figures().ok_or(no_head)?;
+        let table = self.table.as_ref().ok_or(no_head)?;
+        let chain = survey(table.links(), head, rank).ok_or(no_head)?;
+        Ok(Found { chain, ground })
     }
 }

@@ -1,13 +1,13 @@
 //! Opening in two steps: the table is asked for while the mini store may still be shut, and installed when the layer above
 //! has looked at it.
 
-ghost use Rattle.links.specs.Held.{links_of};
 ghost use Rattle.links.specs.Stack.{free_places};
+ghost use Rattle.links.specs.Stacked.{stack_of};
 ghost use Rattle.mini.specs.Mini.{Synced};
 ghost use Rattle.minialloc.specs.States.{state_of};
 ghost use Rattle.minifat.specs.Table.{strictly, table_in, table_of};
 ghost use Rattle.minifat.specs.Told.{told_of};
-ghost use Rattle.std.specs.Prelude.{◌≡◌, true, false, IfOk};
+ghost use Rattle.std.specs.Prelude.{◌≡◌, true, false, [], IfOk};
 
 use crate::MiniStore;
 use links::stacked::Stacked;
@@ -19,7 +19,7 @@ impl<H: Host> MiniStore<H> {
     // The table as the host has it, or the refusal. Nothing changes.
     pub fn read_table(&mut self, validation: Validation) -> Result<Stacked, Fault>
         ensures told { told_of table_in result ≡ table_of (H.ChainStore.meaning self.old.host) H.ChainStore.layer (strictly validation) }
-        ensures stack { IfOk result (λ s. links_of s.stack ≡ free_places (table_in s)) }
+        ensures stack { IfOk result (λ s. stack_of s ≡ free_places (table_in s)) }
         ensures sound { IfOk result (λ s. Synced (H.ChainStore.meaning self.old.host) (table_in s)) }
         ensures left { state_of H.ChainStore.meaning self.new ≡ state_of H.ChainStore.meaning self.old }
     {
@@ -28,22 +28,21 @@ impl<H: Host> MiniStore<H> {
 
     // Opens with a table. Where the host does not bear it out, the mini store means what a shut one means.
     pub fn install(&mut self, table: Stacked)
-        ensures { state_of H.ChainStore.meaning self.new ≡ record { opened = true; host = H.ChainStore.meaning self.old.host; links = links_of table.links; stack = links_of table.stack } }
+        ensures { state_of H.ChainStore.meaning self.new ≡ record { opened = true; host = H.ChainStore.meaning self.old.host; links = table_in table; stack = stack_of table } }
     {
-        self.table = table;
-        self.opened = true;
+        self.table = Some(table);
     }
 
     // Shuts: there is neither chain nor room until a table is installed.
     pub fn shut(&mut self)
-        ensures { state_of H.ChainStore.meaning self.new ≡ record { opened = false; host = H.ChainStore.meaning self.old.host; links = links_of self.old.table.links; stack = links_of self.old.table.stack } }
+        ensures { state_of H.ChainStore.meaning self.new ≡ record { opened = false; host = H.ChainStore.meaning self.old.host; links = []; stack = [] } }
     {
-        self.opened = false;
+        self.table = None;
     }
 
     pub fn is_open(&self) -> bool
-        ensures { result ≡ self.now.opened }
+        ensures { result ≡ (state_of H.ChainStore.meaning self.now).opened }
     {
-        self.opened
+        self.table.is_some()
     }
 }

@@ -1,32 +1,30 @@
 //! Mini sectors as units: linked by the table, with their bytes in the mini stream. The shared text of chains works on them.
 
-ghost use Rattle.std.specs.Prelude.{◌≡◌, ◌+◌, ◌*◌, true, length};
-ghost use Rattle.links.specs.Held.{links_of};
-ghost use Rattle.links.specs.Stack.{place_after};
 ghost use Rattle.chain.specs.Webs.{viewed};
-ghost use Rattle.mini.proofs.Laws.{stacked_woven, stacked_whole};
-ghost use Rattle.mini.specs.Mini.{Borne, Synced, web_of};
+ghost use Rattle.links.specs.Stack.{place_after};
 ghost use Rattle.mini.specs.Steps.{took_mini, put_mini, ended_mini, gave_mini};
-ghost use Rattle.store.specs.Meaning.{Hosted};
+ghost use Rattle.minialloc.specs.Laws.{woven_in, whole_in};
+ghost use Rattle.minialloc.specs.States.{state_of, web_in, next_mini, Sound, SyncedIn};
 
 use crate::MiniStore;
 use chain::linked::Linked;
 use chain::pieces::Units;
 use links::LinkTable;
 use links::consts::END_OF_CHAIN;
+use mini::MINI_SECTOR_LEN;
 use mini::changes::{occupy, read_stream, vacate, write_link, write_stream};
 use store::stores::{ChainStore, Host};
 
 impl<H: Host> Linked for MiniStore<H> {
-    ghost web = { λ m. web_of (H.ChainStore.meaning m.host) (links_of m.table.links) (links_of m.table.stack) };
+    ghost web = { λ m. web_in (state_of H.ChainStore.meaning m) };
 
-    ghost sound = { λ m. (m.opened ≡ true) × Hosted (H.ChainStore.meaning m.host) × Borne (H.ChainStore.meaning m.host) (length (links_of m.table.links)) };
+    ghost sound = { λ m. Sound (state_of H.ChainStore.meaning m) };
 
-    ghost woven = { λ m h. stacked_woven m.table (H.ChainStore.meaning m.host) h.2 };
+    ghost woven = { λ m h. woven_in m.table (H.ChainStore.meaning m.host) h.0 h.1 };
 
-    ghost keeps = { λ m. Synced (H.ChainStore.meaning m.host) (links_of m.table.links) };
+    ghost keeps = { λ m. SyncedIn (state_of H.ChainStore.meaning m) };
 
-    ghost next = { λ w. place_after w.links w.stack };
+    ghost next = { next_mini };
 
     ghost took = { took_mini };
 
@@ -37,68 +35,79 @@ impl<H: Host> Linked for MiniStore<H> {
     ghost gave = { gave_mini };
 
     fn take(&mut self) -> u32 {
-        let fresh = self.table.free() == 0;
-        match self.table.take() {
-            Some(place) => {
-                occupy(&mut self.host, fresh, place);
-                place
-            }
-            None => unreachable(),
-        }
+        let Some(table) = &mut self.table else {
+            unreachable()
+        };
+        let fresh = table.free() == 0;
+        let Some(place) = table.take() else {
+            unreachable()
+        };
+        occupy(&mut self.host, fresh, place);
+        place
     }
 
     fn append(&mut self, last: u32) -> u32 {
-        let fresh = self.table.free() == 0;
-        match self.table.append(last) {
-            Some(place) => {
-                occupy(&mut self.host, fresh, place);
-                write_link(&mut self.host, last, place);
-                place
-            }
-            None => unreachable(),
-        }
+        let Some(table) = &mut self.table else {
+            unreachable()
+        };
+        let fresh = table.free() == 0;
+        let Some(place) = table.append(last) else {
+            unreachable()
+        };
+        occupy(&mut self.host, fresh, place);
+        write_link(&mut self.host, last, place);
+        place
     }
 
     fn cut_off(&mut self, place: u32) -> u32 {
-        match self.table.cut_off(place) {
-            Some(link) => {
-                write_link(&mut self.host, place, END_OF_CHAIN);
-                link
-            }
-            None => unreachable(),
-        }
+        let Some(table) = &mut self.table else {
+            unreachable()
+        };
+        let Some(link) = table.cut_off(place) else {
+            unreachable()
+        };
+        write_link(&mut self.host, place, END_OF_CHAIN);
+        link
     }
 
     fn give_back(&mut self, place: u32) -> u32 {
-        let link = self.table.give_back(place);
+        let Some(table) = &mut self.table else {
+            unreachable()
+        };
+        let link = table.give_back(place);
         vacate(&mut self.host, place);
         link
     }
 }
 
 impl<H: Host> Units for MiniStore<H> {
-    ghost view = { λ m. viewed (web_of (H.ChainStore.meaning m.host) (links_of m.table.links) (links_of m.table.stack)) };
+    ghost view = { λ m. viewed (web_in (state_of H.ChainStore.meaning m)) };
 
-    ghost sound = { λ m. (m.opened ≡ true) × Hosted (H.ChainStore.meaning m.host) × Borne (H.ChainStore.meaning m.host) (length (links_of m.table.links)) };
+    ghost sound = { λ m. Sound (state_of H.ChainStore.meaning m) };
 
-    ghost whole = { λ m h. stacked_whole m.table (H.ChainStore.meaning m.host) h.2 };
+    ghost whole = { λ m h. whole_in m.table (H.ChainStore.meaning m.host) h.0 h.1 };
 
     fn unit_len(&self) -> usize {
-        64
+        MINI_SECTOR_LEN as usize
     }
 
     fn next(&mut self, _head: u32, place: u32, _rank: usize) -> u32 {
-        match self.table.links().get(place) {
-            Some(link) => link,
-            None => unreachable(),
-        }
+        let Some(table) = &self.table else {
+            unreachable()
+        };
+        let Some(link) = table.links().get(place) else {
+            unreachable()
+        };
+        link
     }
 
     fn read_unit(&mut self, place: u32, at: usize, out: &mut [u8]) {
-        read_stream(&mut self.host, u64::from(place) * 64 + at as u64, out);
+        let from = u64::from(place) * u64::from(MINI_SECTOR_LEN);
+        read_stream(&mut self.host, from + at as u64, out);
     }
 
     fn write_unit(&mut self, place: u32, at: usize, src: &[u8]) {
-        write_stream(&mut self.host, u64::from(place) * 64 + at as u64, src);
+        let from = u64::from(place) * u64::from(MINI_SECTOR_LEN);
+        write_stream(&mut self.host, from + at as u64, src);
     }
 }

@@ -1,138 +1,43 @@
 -- Assumes nothing.
-use Rattle.std.proofs.Common.{sym, ◌∙◌, inl, inr, ⊎_elim, arith}
-use Rattle.std.proofs.lemmas.Result.{err_from_is_err_and}
-use Rattle.links.specs.Held.{links_of}
-use Rattle.links.proofs.Stacks.{kept_of, few_of}
-use Rattle.mini.specs.Mini.{mini, web_of}
-use Rattle.store.specs.declared.faults.Refusal.TheVariants.{BadCount}
-use Rattle.chain.specs.Webs.{shortened, stored}
-use Rattle.chain.proofs.Dues.{cut_no, told_no, left_no}
-use Rattle.mini.specs.Steps.{ended_mini, gave_mini}
-use Rattle.mini.proofs.Told.{chain_none, mini_same, synced_same}
-use Rattle.minialloc.specs.States.{State, CutsChain}
-use Rattle.minialloc.proofs.Copies.{found, means, sound_open, sound_now, chain_here, units_here, cut_place}
-use Rattle.minialloc.proofs.Refusals.{not_head, not_head_left, broke_by, state_same}
-use Rattle.minialloc.proofs.Shrinking.{cut_yes, trim_synced}
+use Rattle.std.proofs.Common.{ap, arith}
+use Rattle.chain.proofs.Dues.{told_no, left_no}
+use Rattle.minialloc.specs.States.{meant_in}
+use Rattle.minialloc.proofs.Lasting.{lasting, seen, still}
+use Rattle.minialloc.proofs.Shrinking.{cut_due, cut_place, cut_yes, cut_cuts, trim_synced}
 use Rattle.minialloc.proofs.MiniStore.cut_mini_chain.Goals as goal
-
-pub returns-in_err-found : goal.returns-in_err-found
-returns-in_err-found g c =
-    let self = c.args.self.now in
-    let m = g.H.ChainStore.meaning self.host in
-    let ok = g.H.ChainStore.lawful self.host in
-    let layer = g.H.ChainStore.layer in
-    let L = links_of self.table.links in
-    let S = links_of self.table.stack in
-    let few = few_of self.table.links in
-    let kept = kept_of self.table in
-    let f = c.in_err-found.ensures.told in
-    let same = c.look.ensures.left in
-    let I = mini self.opened m L S in
-    let none = chain_none _ m ok L S few kept self.opened c.args.head f.1 in
-    let p = err_from_is_err_and c.from_residual.result c.from_residual.ensures.1 in
-    let E : State = record { opened = self.opened; host = m; links = L; stack = S } in
-    let X : State = record { opened = self.opened; host = g.H.ChainStore.meaning c.look.new.host; links = L; stack = S } in
-    record {
-      told = not_head I c.args.head none _ _ c.from_residual.result p.0 p.1 (p.2 ∙ f.0);
-      left = not_head_left I c.args.head none _ I _ _ (mini_same self.opened m _ L S same);
-      cuts = broke_by (λ r. CutsChain layer E c.args.head c.args.count r X) c.from_residual.result p.0 p.1 (state_same self.opened m _ L S same);
-      sound = synced_same m _ L same;
-    }
 
 pub returns-then-count-eq0 : goal.returns-then-count-eq0
 returns-then-count-eq0 g c =
-    let self = c.args.self.now in
-    let m = g.H.ChainStore.meaning self.host in
-    let ok = g.H.ChainStore.lawful self.host in
-    let layer = g.H.ChainStore.layer in
-    let L = links_of self.table.links in
-    let S = links_of self.table.stack in
-    let few = few_of self.table.links in
-    let kept = kept_of self.table in
-    let s = g.H.ChainStore.meaning c.look.new.host in
-    let oks = g.H.ChainStore.lawful c.look.new.host in
-    let same = c.look.ensures.left in
-    let f = c.in_ok-found.ensures.told in
-    let n = c.in_ok-found.found.units in
-    let p = c.in_ok-found.found.place in
-    let I = mini self.opened m L S in
-    let due = cut_no I 3 c.args.head _ (chain_here _ self.opened m s L S few kept oks same _ c.args.head c.saturating_sub.result n p f.0 f.1) c.args.count
-    (⊎_elim (λ z. inl z) (λ z. inr (omega (arith, z.1, units_here _ self.opened m s L S few kept oks same _ c.args.head c.saturating_sub.result n p f.0 f.1))) c.then-count-eq0.either) in
+    let a = seen (lasting g.H.ChainStore.lawful g.met.H.Host.hosted c.look.new.self) c.look.ensures.left c.args.head c.saturating_sub.result c.in_ok-found.found c.in_ok-found.ensures.told in
+    let due = cut_due a c.args.count c.then-count-eq0.either in
     record {
-      told = told_no c.fault.result (record { refusal = BadCount; layer = 3; place = c.args.head }) _ tt c.fault.ensures due;
-      left = left_no _ _ I _ _ due (mini_same self.opened m _ L S same);
-      cuts = state_same self.opened m _ L S same;
-      sound = synced_same m _ L same;
+      told = told_no _ _ _ tt c.at.ensures due;
+      left = left_no _ _ _ _ _ due (ap meant_in c.look.ensures.left);
+      cuts = c.look.ensures.left;
+      sound = still c.look.ensures.left;
     }
 
 pub cut-requires : goal.cut-requires
 cut-requires g c =
-    let self = c.args.self.now in
-    let m = g.H.ChainStore.meaning self.host in
-    let ok = g.H.ChainStore.lawful self.host in
-    let layer = g.H.ChainStore.layer in
-    let L = links_of self.table.links in
-    let S = links_of self.table.stack in
-    let few = few_of self.table.links in
-    let kept = kept_of self.table in
-    let s = g.H.ChainStore.meaning c.look.new.host in
-    let oks = g.H.ChainStore.lawful c.look.new.host in
-    let same = c.look.ensures.left in
-    let f = c.in_ok-found.ensures.told in
-    let n = c.in_ok-found.found.units in
-    let p = c.in_ok-found.found.place in
-    let a = found _ self.opened m s L S few kept oks same _ c.args.head c.saturating_sub.result n p f.0 f.1 in
+    let a = seen (lasting g.H.ChainStore.lawful g.met.H.Host.hosted c.look.new.self) c.look.ensures.left c.args.head c.saturating_sub.result c.in_ok-found.found c.in_ok-found.ensures.told in
     record {
-      sound = sound_now _ self.opened m s L S few kept oks same _ c.args.head c.saturating_sub.result n p f.0 f.1 (c.look.ensures.hosted (sound_open _ self.opened m s L S few kept oks same _ c.args.head c.saturating_sub.result n p f.0 f.1));
+      sound = a.base.sound;
       some = omega (arith, c.if-count-eq0.false);
       fewer = c.if-count-found.false;
-      units = sym a.chained.path;
-      place = cut_place _ self.opened m s L S few kept oks same _ c.args.head c.saturating_sub.result n p f.0 f.1 c.args.count c.saturating_sub.ensures c.if-count-eq0.false c.if-count-found.false;
+      units = a.units;
+      place = cut_place a c.args.count c.saturating_sub.ensures c.if-count-eq0.false c.if-count-found.false;
     }
 
 pub returns : goal.returns
 returns g c =
-    let self = c.args.self.now in
-    let m = g.H.ChainStore.meaning self.host in
-    let ok = g.H.ChainStore.lawful self.host in
-    let layer = g.H.ChainStore.layer in
-    let L = links_of self.table.links in
-    let S = links_of self.table.stack in
-    let few = few_of self.table.links in
-    let kept = kept_of self.table in
-    let s = g.H.ChainStore.meaning c.look.new.host in
-    let oks = g.H.ChainStore.lawful c.look.new.host in
-    let same = c.look.ensures.left in
-    let f = c.in_ok-found.ensures.told in
-    let n = c.in_ok-found.found.units in
-    let p = c.in_ok-found.found.place in
-    let x = c.cut.new.s in
-    let y = c.trim.new.self in
-    let h = c.cut.ensures.sound in
-    let tr = c.trim.ensures.trims in
-    let X = g.H.ChainStore.meaning x.host in
-    let Y = g.H.ChainStore.meaning y.host in
-    let okx = g.H.ChainStore.lawful x.host in
-    let oky = g.H.ChainStore.lawful y.host in
-    let M = links_of x.table.links in
-    let T = links_of x.table.stack in
-    let K = links_of y.table.links in
-    let R = links_of y.table.stack in
-    let I = mini self.opened m L S in
-    let mid : State = record { opened = x.opened; host = X; links = M; stack = T } in
-    let k = c.args.count in
-    let a = found _ self.opened m s L S few kept oks same _ c.args.head c.saturating_sub.result n p f.0 f.1 in
-    let e = means _ self.opened m s L S few kept oks same _ c.args.head c.saturating_sub.result n p f.0 f.1 in
-    let place = cut_place _ self.opened m s L S few kept oks same _ c.args.head c.saturating_sub.result n p f.0 f.1 k c.saturating_sub.ensures c.if-count-eq0.false c.if-count-found.false in
-    let z = cut_yes _ layer X Y M T K R okx oky h.1 (few_of x.table.links) (kept_of x.table) (few_of y.table.links) (kept_of y.table) h.2 tr.0 c.trim.ensures.same x.opened y.opened h.0 tr.1 I (stored (web_of s L S)) e c.args.head _ a.chained.chain k n c.if-count-eq0.false c.if-count-found.false (sym a.chained.units) c.cut.ensures.means in
+    let a = seen (lasting g.H.ChainStore.lawful g.met.H.Host.hosted c.look.new.self) c.look.ensures.left c.args.head c.saturating_sub.result c.in_ok-found.found c.in_ok-found.ensures.told in
+    let okx = lasting g.H.ChainStore.lawful g.met.H.Host.hosted c.cut.new.s in
+    let oky = lasting g.H.ChainStore.lawful g.met.H.Host.hosted c.trim.new.self in
+    let y = cut_yes g.H.ChainStore.layer a okx oky c.cut.ensures.sound c.trim.ensures.trims c.trim.ensures.same c.args.count c.if-count-eq0.false c.if-count-found.false c.cut.ensures.means in
     record {
-      told = z.0;
-      left = z.1;
-      cuts = (
-        mid,
-        h.0 ∙ sym (sound_open _ self.opened m s L S few kept oks same _ c.args.head c.saturating_sub.result n p f.0 f.1),
-        c.cut.ensures.left ∙ (λ i. shortened ended_mini gave_mini k (sym a.chained.path i) (web_of (same i) L S) (place i)),
-        tr,
-      );
-      sound = λ q. trim_synced _ layer X Y M T K R okx oky h.1 (few_of x.table.links) (kept_of x.table) (few_of y.table.links) (kept_of y.table) h.2 tr.0 c.trim.ensures.same x.opened y.opened h.0 tr.1 (c.cut.ensures.keeps (synced_same m s L same q));
+      told = y.0;
+      left = y.1;
+      cuts = cut_cuts g.H.ChainStore.layer a okx oky c.cut.ensures.sound c.trim.ensures.trims c.trim.ensures.same c.args.count
+          (cut_place a c.args.count c.saturating_sub.ensures c.if-count-eq0.false c.if-count-found.false) c.cut.ensures.left;
+      sound = λ k. trim_synced g.H.ChainStore.layer a okx oky c.cut.ensures.sound c.trim.ensures.trims c.trim.ensures.same (c.cut.ensures.keeps (still c.look.ensures.left k));
     }

@@ -1,100 +1,36 @@
 -- Assumes nothing.
-use Rattle.std.proofs.Common.{◌+◌, ◌*◌, ◌<◌, ◌≤◌, length, sym, refl, ◌∙◌}
-use Rattle.std.proofs.lemmas.Result.{err_from_is_err_and}
-use Rattle.std.proofs.lemmas.Bool.{leb-true, leb-false}
-use Rattle.links.specs.Held.{links_of}
-use Rattle.links.proofs.Stacks.{kept_of, few_of}
-use Rattle.mini.specs.Mini.{mini}
-use Rattle.mini.proofs.Told.{chain_none}
-use Rattle.minialloc.proofs.Copies.{sound_open, sound_now, past_told, past_left, copy_whole, copy_fits, read_yes, read_left}
-use Rattle.minialloc.proofs.Refusals.{not_head, not_head_left, state_same}
+use Rattle.std.proofs.Common.{◌+◌, length, sym, refl, ◌∙◌}
+use Rattle.chain.proofs.Dues.{told_no, left_no}
+use Rattle.minialloc.proofs.Copies.{past_due, copy_whole, copy_fits, read_yes, read_left}
+use Rattle.minialloc.proofs.Lasting.{lasting, seen}
 use Rattle.minialloc.proofs.MiniStore.read_mini_chain.Goals as goal
-
-pub returns-in_err-found : goal.returns-in_err-found
-returns-in_err-found g c =
-    let self = c.args.self.now in
-    let m = g.H.ChainStore.meaning self.host in
-    let ok = g.H.ChainStore.lawful self.host in
-    let L = links_of self.table.links in
-    let S = links_of self.table.stack in
-    let f = c.in_err-found.ensures.told in
-    let same = c.look.ensures.left in
-    let M = mini self.opened m L S in
-    let none = chain_none _ m ok L S (few_of self.table.links) (kept_of self.table) self.opened c.args.head f.1 in
-    let p = err_from_is_err_and c.from_residual.result c.from_residual.ensures.1 in
-    record {
-      told = not_head M c.args.head none _ _ c.from_residual.result p.0 p.1 (p.2 ∙ f.0);
-      out = not_head_left M c.args.head none _ c.args.out.now _ c.args.out.now refl;
-      left = state_same self.opened m _ L S same;
-    }
 
 pub returns-then-not-holds : goal.returns-then-not-holds
 returns-then-not-holds g c =
-    let self = c.args.self.now in
-    let m = g.H.ChainStore.meaning self.host in
-    let ok = g.H.ChainStore.lawful self.host in
-    let L = links_of self.table.links in
-    let S = links_of self.table.stack in
-    let s = g.H.ChainStore.meaning c.look.new.host in
-    let oks = g.H.ChainStore.lawful c.look.new.host in
-    let same = c.look.ensures.left in
-    let f = c.in_ok-found.ensures.told in
-    let few = few_of self.table.links in
-    let kept = kept_of self.table in
-    let n = c.in_ok-found.found.units in
-    let p = c.in_ok-found.found.place in
-    let end = c.args.at + length c.args.out.now in
-    let past : n * 64 < end = leb-false end (n * 64) (sym c.holds.ensures ∙ c.if-not-holds.true) in
+    let a = seen (lasting g.H.ChainStore.lawful g.met.H.Host.hosted c.look.new.self) c.look.ensures.left c.args.head 0 c.in_ok-found.found c.in_ok-found.ensures.told in
+    let due = past_due a (c.args.at + length c.args.out.now) (sym c.holds.ensures ∙ c.if-not-holds.true) in
     record {
-      told = past_told _ self.opened m s L S few kept oks same _ c.args.head 0 n p f.0 f.1 end past c.fault.result c.fault.ensures tt;
-      out = past_left _ self.opened m s L S few kept oks same _ c.args.head 0 n p f.0 f.1 end past c.fault.result c.fault.ensures c.args.out.now _ c.args.out.now refl;
-      left = state_same self.opened m _ L S same;
+      told = told_no _ _ _ tt c.at.ensures due;
+      out = left_no _ _ c.args.out.now _ c.args.out.now due refl;
+      left = c.look.ensures.left;
     }
 
 pub read_chain-requires : goal.read_chain-requires
 read_chain-requires g c =
-    let self = c.args.self.now in
-    let m = g.H.ChainStore.meaning self.host in
-    let ok = g.H.ChainStore.lawful self.host in
-    let L = links_of self.table.links in
-    let S = links_of self.table.stack in
-    let s = g.H.ChainStore.meaning c.look.new.host in
-    let oks = g.H.ChainStore.lawful c.look.new.host in
-    let same = c.look.ensures.left in
-    let f = c.in_ok-found.ensures.told in
-    let few = few_of self.table.links in
-    let kept = kept_of self.table in
-    let n = c.in_ok-found.found.units in
-    let p = c.in_ok-found.found.place in
-    let within : c.args.at + length c.args.out.now ≤ n * 64 = leb-true _ _ (sym c.holds.ensures ∙ c.if-not-holds.false) in
+    let a = seen (lasting g.H.ChainStore.lawful g.met.H.Host.hosted c.look.new.self) c.look.ensures.left c.args.head 0 c.in_ok-found.found c.in_ok-found.ensures.told in
+    let within = sym c.holds.ensures ∙ c.if-not-holds.false in
     record {
-      sound = sound_now _ self.opened m s L S few kept oks same _ c.args.head 0 n p f.0 f.1 (c.look.ensures.hosted (sound_open _ self.opened m s L S few kept oks same _ c.args.head 0 n p f.0 f.1));
-      whole = copy_whole _ self.opened m s L S few kept oks same _ c.args.head 0 n p f.0 f.1 c.args.at (length c.args.out.now) within;
-      fits = copy_fits _ self.opened m s L S few kept oks same _ c.args.head 0 n p f.0 f.1 c.args.at (length c.args.out.now) within;
+      sound = a.base.sound;
+      whole = copy_whole a c.args.at (length c.args.out.now) within;
+      fits = copy_fits a c.args.at (length c.args.out.now) within;
     }
 
 pub returns : goal.returns
 returns g c =
-    let self = c.args.self.now in
-    let m = g.H.ChainStore.meaning self.host in
-    let ok = g.H.ChainStore.lawful self.host in
-    let L = links_of self.table.links in
-    let S = links_of self.table.stack in
-    let s = g.H.ChainStore.meaning c.look.new.host in
-    let oks = g.H.ChainStore.lawful c.look.new.host in
-    let same = c.look.ensures.left in
-    let f = c.in_ok-found.ensures.told in
-    let few = few_of self.table.links in
-    let kept = kept_of self.table in
-    let n = c.in_ok-found.found.units in
-    let p = c.in_ok-found.found.place in
-    let within : c.args.at + length c.args.out.now ≤ n * 64 = leb-true _ _ (sym c.holds.ensures ∙ c.if-not-holds.false) in
-    let after = c.read_chain.new.s in
-    let h = c.read_chain.ensures.sound in
-    let y = read_yes _ self.opened m s L S few kept oks same _ c.args.head 0 n p f.0 f.1 c.args.at c.args.out.now c.read_chain.new.out within c.read_chain.ensures.read in
+    let a = seen (lasting g.H.ChainStore.lawful g.met.H.Host.hosted c.look.new.self) c.look.ensures.left c.args.head 0 c.in_ok-found.found c.in_ok-found.ensures.told in
+    let y = read_yes a c.args.at c.args.out.now c.read_chain.new.out (sym c.holds.ensures ∙ c.if-not-holds.false) c.read_chain.ensures.read in
     record {
       told = y.0;
       out = y.1;
-      left = read_left _ self.opened m s L S few kept oks same _ c.args.head 0 n p f.0 f.1 (g.H.ChainStore.meaning after.host) (links_of after.table.links) (links_of after.table.stack) after.opened (g.H.ChainStore.lawful after.host) h.0 h.2
-          (few_of after.table.links) (kept_of after.table) c.read_chain.ensures.same;
+      left = read_left a (lasting g.H.ChainStore.lawful g.met.H.Host.hosted c.read_chain.new.s) c.read_chain.ensures.sound c.read_chain.ensures.same;
     }

@@ -1,6 +1,6 @@
 -- Assumes nothing.
 use Rattle.std.proofs.Common.{refl}
-use Rattle.links.specs.Held.{links_of}
+use Rattle.links.specs.Stacked.{table_of, stack_of}
 use Rattle.links.specs.Links.{FREE}
 use Rattle.links.proofs.Stacks.{kept_of, few_of}
 use Rattle.mini.specs.Steps.{link_wrote}
@@ -10,25 +10,26 @@ use Rattle.minialloc.proofs.units.MiniStoreLinked.give_back.Goals as goal
 
 pub returns : goal.returns
 returns g c =
-    let t = c.args.self.now.table in
+    let t = c.in-Some.table in
     let u = c.give_back-link.new.self in
     let host = c.args.self.now.host in
     let m = g.H.ChainStore.meaning host in
     let s = g.H.ChainStore.meaning c.vacate.new.host in
     let ok = g.H.ChainStore.lawful host in
     let layer = g.H.ChainStore.layer in
-    let h = c.requires.sound in
-    let L = links_of t.links in
-    let S = links_of t.stack in
-    let M = links_of u.links in
-    let T = links_of u.stack in
+    let h = rw c.in-Some.is at c.requires.sound in
+    let live = rw c.in-Some.is at c.requires.live in
+    let L = table_of t in
+    let S = stack_of t in
+    let M = table_of u in
+    let T = stack_of u in
     let p = c.args.place in
-    let made = gave_made _ layer m ok h.1 L S (few_of t.links) (kept_of t) h.2 p c.requires.live (link_wrote m layer p FREE) s M T
+    let made = gave_made _ layer m ok (g.met.H.Host.hosted host) L S (few_of t.links) (kept_of t) h.1 p live (link_wrote m layer p FREE) s M T
     refl c.vacate.ensures c.give_back-link.ensures.table c.give_back-link.ensures.places (kept_of u) in
-    record {
-      sound = (h.0, made.hosted, made.borne);
+    rw c.in-Some.is (record {
+      sound = (h.0, made.borne);
       keeps = made.synced;
       told = c.give_back-link.ensures.told;
       left = made.web;
-      gave = back_gave m L S (few_of t.links) (kept_of t) s M T p (place_bytes _ layer m ok h.1 L S (few_of t.links) (kept_of t) h.2 p c.requires.live) made;
-    }
+      gave = back_gave m L S (few_of t.links) (kept_of t) s M T p (place_bytes _ layer m ok (g.met.H.Host.hosted host) L S (few_of t.links) (kept_of t) h.1 p live) made;
+    })
