@@ -1,15 +1,17 @@
 -- What a line of a script says.
 -- Assumes nothing.
-use Rattle.std.specs.Prelude.{ℕ, cond, List, [], ◌∷◌, Some, None, vec_items, codes, Option}
+use Rattle.std.specs.Prelude.{◌≡◌, ℕ, cond, List, [], ◌∷◌, Some, None, Ok, Err, vec_items, codes, Option, Result}
+use Rattle.std.specs.Option.{option_map}
 use Rattle.std.specs.Str.{bytes_eq}
 use Rattle.calls.specs.declared.lines.Call.{Call}
 use Rattle.calls.specs.declared.lines.Call.TheVariants as call
-use Rattle.calls.specs.declared.lines.Line.{Line}
-use Rattle.calls.specs.declared.lines.Line.TheVariants as line
+use Rattle.calls.specs.declared.lines.NotACall.{NotACall}
+use Rattle.calls.specs.declared.faults.Fault.{Fault}
+use Rattle.calls.specs.Faults.{Tells}
 use Rattle.script.specs.Lines.{bytes_of}
 use Rattle.script.specs.Words.{number_of, short_of}
 
--- a line with what it says: a call with its numbers, and the bytes of a write
+-- a call with its numbers, and the bytes of a write
 pub data Said : Type 0 where
   begin : ℕ → Said
   extend : ℕ → ℕ → Said
@@ -19,8 +21,6 @@ pub data Said : Type 0 where
   room : Said
   read : ℕ → ℕ → ℕ → Said
   write : ℕ → ℕ → List ℕ → Said
-  empty : Said
-  wrong : Said
 
 -- what a call of the code says
 abbrev pub asked : Call → Said
@@ -33,55 +33,68 @@ asked call.Room = room
 asked (call.Read h at n) = read h at n
 asked (call.Write h at v) = write h at (vec_items v)
 
--- what a line of the code says
-abbrev pub said : Line → Said
-said (line.Call c) = asked c
-said line.Empty = empty
-said line.Wrong = wrong
-
 -- a name alone
-abbrev pub alone : List ℕ → Said
-alone name = cond (bytes_eq name (codes "room")) room wrong
+abbrev pub alone : List ℕ → Option Said
+alone name = cond (bytes_eq name (codes "room")) (Some room) None
 
 -- a name with a head or a count
-abbrev pub one : List ℕ → Option ℕ → Said
-one name None = wrong
+abbrev pub one : List ℕ → Option ℕ → Option Said
+one name None = None
 one name (Some n) =
-    cond (bytes_eq name (codes "begin")) (begin n)
-    (cond (bytes_eq name (codes "free")) (free n) (cond (bytes_eq name (codes "units")) (units n) wrong))
+    cond (bytes_eq name (codes "begin")) (Some (begin n))
+    (cond (bytes_eq name (codes "free")) (Some (free n)) (cond (bytes_eq name (codes "units")) (Some (units n)) None))
 
 -- a name with a head and a count
-abbrev pub two : List ℕ → Option ℕ → Option ℕ → Said
-two name None o = wrong
-two name (Some h) None = wrong
+abbrev pub two : List ℕ → Option ℕ → Option ℕ → Option Said
+two name None o = None
+two name (Some h) None = None
 two name (Some h) (Some n) =
-    cond (bytes_eq name (codes "extend")) (extend h n) (cond (bytes_eq name (codes "cut")) (cut h n) wrong)
+    cond (bytes_eq name (codes "extend")) (Some (extend h n)) (cond (bytes_eq name (codes "cut")) (Some (cut h n)) None)
 
 -- a head, an offset and a count
-abbrev pub reading : Option ℕ → Option ℕ → Option ℕ → Said
-reading None o p = wrong
-reading (Some h) None p = wrong
-reading (Some h) (Some at) None = wrong
-reading (Some h) (Some at) (Some n) = read h at n
+abbrev pub reading : Option ℕ → Option ℕ → Option ℕ → Option Said
+reading None o p = None
+reading (Some h) None p = None
+reading (Some h) (Some at) None = None
+reading (Some h) (Some at) (Some n) = Some (read h at n)
 
 -- a head, an offset and bytes
-abbrev pub writing : Option ℕ → Option ℕ → Option (List ℕ) → Said
-writing None o p = wrong
-writing (Some h) None p = wrong
-writing (Some h) (Some at) None = wrong
-writing (Some h) (Some at) (Some bs) = write h at bs
+abbrev pub writing : Option ℕ → Option ℕ → Option (List ℕ) → Option Said
+writing None o p = None
+writing (Some h) None p = None
+writing (Some h) (Some at) None = None
+writing (Some h) (Some at) (Some bs) = Some (write h at bs)
 
 -- a name with a head, an offset, and a count or bytes
-abbrev pub three : List ℕ → List ℕ → List ℕ → List ℕ → Said
+abbrev pub three : List ℕ → List ℕ → List ℕ → List ℕ → Option Said
 three name head at third =
     cond (bytes_eq name (codes "read")) (reading (short_of head) (number_of at) (number_of third))
-    (cond (bytes_eq name (codes "write")) (writing (short_of head) (number_of at) (bytes_of third)) wrong)
+    (cond (bytes_eq name (codes "write")) (writing (short_of head) (number_of at) (bytes_of third)) None)
 
--- what the words of a line say
-abbrev pub call_of : List (List ℕ) → Said
-call_of [] = empty
+-- the call that words are, if they are one
+abbrev pub call_of : List (List ℕ) → Option Said
+call_of [] = None
 call_of (name ∷ []) = alone name
 call_of (name ∷ a ∷ []) = one name (short_of a)
 call_of (name ∷ a ∷ b ∷ []) = two name (short_of a) (short_of b)
 call_of (name ∷ a ∷ b ∷ c ∷ []) = three name a b c
-call_of (name ∷ a ∷ b ∷ c ∷ d ∷ ws) = wrong
+call_of (name ∷ a ∷ b ∷ c ∷ d ∷ ws) = None
+
+-- the call, or that there is none
+abbrev pub called : Option Said → Result (Option Said) NotACall
+called None = Err (record {})
+called (Some c) = Ok (Some c)
+
+-- what the words of a line say: no word says nothing
+abbrev pub line_of : List (List ℕ) → Result (Option Said) NotACall
+line_of [] = Ok None
+line_of (w ∷ ws) = called (call_of (w ∷ ws))
+
+-- what a parsing returns: what the words say, or its fault
+abbrev pub Says : Result (Option Call) (Fault NotACall) → Result (Option Said) NotACall → Type 0
+Says (Ok c) o = o ≡ Ok (option_map asked c)
+Says (Err f) o = Tells (λ w. w) f o
+
+-- how it is printed that words are no call
+abbrev pub wrong_text : NotACall → List ℕ
+wrong_text w = codes "not a chain call"

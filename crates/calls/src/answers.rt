@@ -1,17 +1,22 @@
 //! What a store answers to a call.
 
-ghost use Rattle.std.specs.Prelude.{◌≡◌, ◌+◌, take, drop, IfOk, MatchResult};
-ghost use Rattle.calls.specs.Answers.{Answered, reply, replied, finished, number, bytes};
+ghost use Rattle.std.specs.Prelude.{◌≡◌, ◌+◌, take, drop, Some, IfOk, MatchResult};
+ghost use Rattle.calls.specs.Answers.{Answered, reply, replied, bytes, answer_text, bytes_text};
 ghost use Rattle.store.specs.Meaning.{bytes_of, due_copy};
 ghost use Rattle.store.specs.Refusals.{told, answer};
 
 use crate::lines::Call;
+use script::fnv;
 use std::alloc::{AllocError, Global};
+use std::fmt;
 use store::faults::StoreFault;
 use store::stores::ChainStore;
 
 // One byte more than any chain has, so a longer read is refused as one of this size is.
 const LONGEST: u64 = 16_777_217;
+
+// No more bytes than these are printed one by one.
+const FEW: usize = 64;
 
 // What a call is answered with.
 #[derive(Drop)]
@@ -19,26 +24,44 @@ pub enum Answer {
     Done,
     Number(u32),
     Bytes(Vec<u8>),
-    Refused(StoreFault),
 }
 
-// The answer to a call that has no more to tell.
-fn ended(outcome: Result<(), StoreFault>) -> Answer
-    ensures { reply result ≡ replied finished (told outcome) }
-{
-    match outcome {
-        Ok(()) => Answer::Done,
-        Err(fault) => Answer::Refused(fault),
+// Bytes, as they are printed: in hexadecimal, and many of them by their hash.
+#[derive(Drop)]
+struct Shown<'a>(&'a [u8]);
+
+impl fmt::Display for Shown<'_> {
+    ghost output = { λ s. Some (bytes_text s.0.now) };
+
+    fn fmt<W: fmt::Write>(&self, f: &mut fmt::Formatter<W>) -> fmt::Result {
+        if self.0.is_empty() {
+            return write!(f, "-");
+        }
+        if self.0.len() > FEW {
+            let hash = fnv(self.0);
+            return write!(f, "fnv:{hash:016x}");
+        }
+        for byte in self.0 {
+            let byte = *byte;
+            write!(f, "{byte:02x}")?;
+        }
+        Ok(())
     }
 }
 
-// The answer to a call that tells a number.
-fn counted(outcome: Result<u32, StoreFault>) -> Answer
-    ensures { reply result ≡ replied number (told outcome) }
-{
-    match outcome {
-        Ok(n) => Answer::Number(n),
-        Err(fault) => Answer::Refused(fault),
+impl fmt::Display for Answer {
+    ghost output = { λ a. Some (answer_text a) };
+
+    fn fmt<W: fmt::Write>(&self, f: &mut fmt::Formatter<W>) -> fmt::Result {
+        match self {
+            Answer::Done => write!(f, "ok"),
+            Answer::Number(number) => write!(f, "ok {number}"),
+            Answer::Bytes(bytes) => {
+                let count = bytes.len();
+                let shown = Shown(bytes.as_slice());
+                write!(f, "ok {count} {shown}")
+            }
+        }
     }
 }
 
@@ -49,31 +72,36 @@ fn fetch<S: ChainStore>(
     head: u32,
     at: u64,
     count: u64,
-) -> Result<Answer, AllocError>
-    ensures told { IfOk result (λ a. reply a ≡ replied bytes (answer (due_copy (S.ChainStore.meaning store.old) S.ChainStore.layer head (at + count)) (take count (drop at (bytes_of (S.ChainStore.meaning store.old) head))))) }
+) -> Result<Result<Answer, StoreFault>, AllocError>
+    ensures told { IfOk result (λ a. replied reply (told a) ≡ replied bytes (answer (due_copy (S.ChainStore.meaning store.old) S.ChainStore.layer head (at + count)) (take count (drop at (bytes_of (S.ChainStore.meaning store.old) head))))) }
     ensures left { S.ChainStore.meaning store.new ≡ S.ChainStore.meaning store.old }
     ensures sound { S.ChainStore.sound store.old → S.ChainStore.sound store.new }
 {
     let mut out = vec![in heap; 0u8; count.min(LONGEST) as usize]?;
-    match store.read(head, at, out.as_mut_slice()) {
-        Ok(()) => Ok(Answer::Bytes(out)),
-        Err(fault) => Ok(Answer::Refused(fault)),
-    }
+    let read = store.read(head, at, out.as_mut_slice());
+    Ok(read.map(|()| Answer::Bytes(out)))
 }
 
 // Makes a call against a store. Where a read finds no memory for its answer, nothing is changed.
-pub fn ask<S: ChainStore>(heap: Global, store: &mut S, call: Call) -> Result<Answer, AllocError>
-    ensures answered { MatchResult result (λ a. Answered (S.ChainStore.meaning store.old) S.ChainStore.layer call (reply a) (S.ChainStore.meaning store.new)) (λ _. S.ChainStore.meaning store.new ≡ S.ChainStore.meaning store.old) }
+pub fn ask<S: ChainStore>(
+    heap: Global,
+    store: &mut S,
+    call: Call,
+) -> Result<Result<Answer, StoreFault>, AllocError>
+    ensures answered { MatchResult result (λ a. Answered (S.ChainStore.meaning store.old) S.ChainStore.layer call (replied reply (told a)) (S.ChainStore.meaning store.new)) (λ _. S.ChainStore.meaning store.new ≡ S.ChainStore.meaning store.old) }
     ensures sound { S.ChainStore.sound store.old → S.ChainStore.sound store.new }
 {
     match call {
-        Call::Begin(count) => Ok(counted(store.begin(count))),
-        Call::Extend(head, count) => Ok(ended(store.extend(head, count))),
-        Call::Cut(head, count) => Ok(ended(store.cut(head, count))),
-        Call::Free(head) => Ok(ended(store.free(head))),
-        Call::Units(head) => Ok(counted(store.units(head))),
-        Call::Room => Ok(Answer::Number(store.room())),
+        Call::Begin(count) => Ok(store.begin(count).map(Answer::Number)),
+        Call::Extend(head, count) => Ok(store.extend(head, count).map(|()| Answer::Done)),
+        Call::Cut(head, count) => Ok(store.cut(head, count).map(|()| Answer::Done)),
+        Call::Free(head) => Ok(store.free(head).map(|()| Answer::Done)),
+        Call::Units(head) => Ok(store.units(head).map(Answer::Number)),
+        Call::Room => Ok(Ok(Answer::Number(store.room()))),
         Call::Read(head, at, count) => fetch(heap, store, head, at, count),
-        Call::Write(head, at, bytes) => Ok(ended(store.write(head, at, bytes.as_slice()))),
+        Call::Write(head, at, bytes) => {
+            let written = store.write(head, at, bytes.as_slice());
+            Ok(written.map(|()| Answer::Done))
+        }
     }
 }

@@ -3,5 +3,6 @@
 #![tactic(auto)]
 
 pub mod answers;
+pub mod faults;
 pub mod lines;
 pub mod tables;

@@ -1,79 +1,103 @@
 //! A link table as a text writes it, and which of its places are listed.
 
-ghost use Rattle.calls.specs.Tables.{links_of, pushed, words_into, table_of, Reads, Lists};
-ghost use Rattle.calls.specs.declared.tables.TableFault.TheVariants.{Memory};
-ghost use Rattle.std.specs.Prelude.{◌≡◌, map, Ok, Err, MatchResult};
+ghost use Rattle.calls.specs.Tables.{pushed, words_into, table_of, Reads, Stops, Lists, word_text, wrong_text, listing_text};
+ghost use Rattle.links.specs.Held.{links_of};
+ghost use Rattle.std.specs.Prelude.{◌≡◌, map, Some, Ok, Err, MatchResult, [], ◌∷◌};
 
+use crate::faults::Fault;
 use links::LinkTable;
 use links::consts::FREE_SECTOR;
 use links::held::Links;
 use links::walks::on_chain;
 use script::lines::{lines_of, words_of};
 use script::number_32;
-use std::alloc::{AllocError, Global};
+use std::alloc::Global;
+use std::fmt;
 
 // Why a word does not go into a table.
-#[derive(Clone, Copy)]
+#[derive(Clone, Copy, PartialEq, Eq, Debug)]
 pub enum WordFault {
     NoLink,
     TooMany,
 }
 
-// Why a text is not read: a word does not go into the table, in a line that is counted from 1; or there was no memory.
-#[derive(Drop)]
-pub enum TableFault {
-    Word(u64, String, WordFault),
-    Memory(AllocError),
+impl fmt::Display for WordFault {
+    ghost output = { λ f. Some (word_text f) };
+
+    fn fmt<W: fmt::Write>(&self, f: &mut fmt::Formatter<W>) -> fmt::Result {
+        match self {
+            WordFault::NoLink => write!(f, "no link: write a number below 2^32, END or FREE"),
+            WordFault::TooMany => write!(f, "one link too many: a table has at most 4096"),
+        }
+    }
 }
 
-impl From<AllocError> for TableFault {
-    ghost from_gives = { λ e r. r ≡ Memory e };
+// A word that does not go into a table, in a line that is counted from 1.
+#[derive(Debug, Drop)]
+pub struct BadWord {
+    pub line: u64,
+    pub word: String,
+    pub fault: WordFault,
+}
 
-    fn from(error: AllocError) -> TableFault {
-        TableFault::Memory(error)
+impl fmt::Display for BadWord {
+    ghost output = { λ b. Some (wrong_text b) };
+
+    fn fmt<W: fmt::Write>(&self, f: &mut fmt::Formatter<W>) -> fmt::Result {
+        let BadWord { line, word, fault } = self;
+        write!(f, "line {line}: '{word}' is {fault}")
     }
 }
 
 // The link that the word says goes behind the others; or nothing is changed.
 fn push_word(table: &mut Links, word: &str) -> Result<(), WordFault>
-    ensures { MatchResult result (λ _. pushed word.now (links_of table.old) ≡ Ok (links_of table.new)) (λ f. (pushed word.now (links_of table.old) ≡ Err f) × (links_of table.new ≡ links_of table.old)) }
+    ensures { let due = pushed word.now (links_of table.old) in MatchResult result (λ _. due ≡ Ok (links_of table.new)) (λ f. (due ≡ Err f) × (links_of table.new ≡ links_of table.old)) }
 {
-    let Some(link) = number_32(word) else {
-        return Err(WordFault::NoLink);
-    };
-    if table.push(link) {
-        Ok(())
-    } else {
-        Err(WordFault::TooMany)
-    }
+    let link = number_32(word).ok_or(WordFault::NoLink)?;
+    table.push(link).then_some(()).ok_or(WordFault::TooMany)
 }
 
-// The links that the words of a line say go behind the others.
+// The link that a word of a line says goes behind the others; or word and line are told, and nothing is changed.
+pub fn read_word(
+    heap: Global,
+    table: &mut Links,
+    line: u64,
+    word: &str,
+) -> Result<(), Fault<BadWord>>
+    ensures { let due = words_into line (word.now ∷ []) (links_of table.old) in MatchResult result (λ _. due ≡ Ok (links_of table.new)) (λ f. Stops f due × (links_of table.new ≡ links_of table.old)) }
+{
+    // Kept: `map_err` cannot make this fault, whose word is copied and may find no memory.
+    if let Err(fault) = push_word(table, word) {
+        let word = String::from_str(heap, word)?;
+        return Err(Fault::Wrong(BadWord { line, word, fault }));
+    }
+    Ok(())
+}
+
+// The links that the words of a line say go behind the others, up to one that does not.
 fn read_words(
     heap: Global,
-    mut table: Links,
+    table: &mut Links,
     line: u64,
     words: &[&str],
-) -> Result<Links, TableFault>
-    ensures { Reads result (words_into line (map (λ x. x.now) words.now) (links_of table)) }
+) -> Result<(), Fault<BadWord>>
+    ensures { let due = words_into line (map (λ x. x.now) words.now) (links_of table.old) in MatchResult result (λ _. due ≡ Ok (links_of table.new)) (λ f. Stops f due) }
 {
     for word in words {
-        if let Err(fault) = push_word(&mut table, word) {
-            return Err(TableFault::Word(line, String::from_str(heap, word)?, fault));
-        }
+        read_word(heap, table, line, word)?;
     }
-    Ok(table)
+    Ok(())
 }
 
 // The table that a text writes, line by line.
-pub fn read_table(heap: Global, text: &str) -> Result<Links, TableFault>
+pub fn read_table(heap: Global, text: &str) -> Result<Links, Fault<BadWord>>
     ensures { Reads result (table_of text.now) }
 {
     let lines = lines_of(heap, text)?;
     let mut table = Links::new();
     for (i, line) in lines.as_slice().iter().enumerate() {
         let words = words_of(heap, line)?;
-        table = read_words(heap, table, i as u64 + 1, words.as_slice())?;
+        read_words(heap, &mut table, i as u64 + 1, words.as_slice())?;
     }
     Ok(table)
 }
@@ -83,6 +107,17 @@ pub fn read_table(heap: Global, text: &str) -> Result<Links, TableFault>
 pub enum Listing {
     Free,
     OnNoChain,
+}
+
+impl fmt::Display for Listing {
+    ghost output = { λ l. Some (listing_text l) };
+
+    fn fmt<W: fmt::Write>(&self, f: &mut fmt::Formatter<W>) -> fmt::Result {
+        match self {
+            Listing::Free => write!(f, "free"),
+            Listing::OnNoChain => write!(f, "on no chain"),
+        }
+    }
 }
 
 impl Listing {

@@ -25,13 +25,14 @@ fn task(rt: &HostRuntime, name: &str, text: &str) -> anyhow::Result<()> {
 fn run(rt: &HostRuntime) -> anyhow::Result<()> {
     let all: Vec<String> = env::args(rt)?.collect(rt.alloc())?;
     match all.as_slice() {
+        [] | [_] => Err(anyhow!(USAGE)),
         [_, name] => task(
             rt,
             name.as_str(),
             io::read_to_string(rt.alloc(), rt.stdin())?.as_str(),
         ),
-        [_, _, _, ..] => {
-            for pair in all[1..].chunks(2) {
+        [_, tasks @ ..] => {
+            for pair in tasks.chunks(2) {
                 let [name, path] = pair else {
                     return Err(anyhow!(USAGE));
                 };
@@ -43,7 +44,6 @@ fn run(rt: &HostRuntime) -> anyhow::Result<()> {
             }
             Ok(())
         }
-        _ => Err(anyhow!(USAGE)),
     }
 }
 

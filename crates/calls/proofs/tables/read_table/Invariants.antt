@@ -1,7 +1,8 @@
 -- What is left of the lines, after the links so far, says what all the lines say.
 -- Assumes nothing.
 use Rattle.std.proofs.Common.{◌≡◌, ◌+◌, [], map, drop}
-use Rattle.calls.specs.Tables.{links_of, lines_into}
+use Rattle.links.specs.Held.{links_of}
+use Rattle.calls.specs.Tables.{lines_into}
 use Rattle.calls.proofs.tables.read_table.Given as goal
 
 abbrev pub invariant-loop-i : goal.invariant-loop-i

@@ -1,7 +1,8 @@
 -- What is left of the words, after the links so far, says what all the words say.
 -- Assumes nothing.
 use Rattle.std.proofs.Common.{◌≡◌, map, drop}
-use Rattle.calls.specs.Tables.{links_of, words_into}
+use Rattle.links.specs.Held.{links_of}
+use Rattle.calls.specs.Tables.{words_into}
 use Rattle.calls.proofs.tables.read_words.Given as goal
 
 abbrev pub invariant-loop-word : goal.invariant-loop-word

@@ -1,0 +1,11 @@
+-- The bytes so far are written.
+-- Assumes nothing.
+use Rattle.std.proofs.Common.{take}
+use Rattle.std.specs.Fmt.{HasWritten, IsPlainFormatter}
+use Rattle.std.specs.List.{flat_map}
+use Rattle.calls.specs.Answers.{hex}
+use Rattle.calls.proofs.answers.ShownDisplay.fmt.Given as goal
+
+abbrev pub invariant-loop-byte : goal.invariant-loop-byte
+invariant-loop-byte g l =
+    IsPlainFormatter l.initial.f → HasWritten g.W.Write.write_str_gives l.initial.f (flat_map (hex 2) (take l.byte-index l.byte-items)) l.f
