@@ -73,7 +73,7 @@ fn fetch<S: ChainStore>(
     at: u64,
     count: u64,
 ) -> Result<Result<Answer, StoreFault>, AllocError>
-    ensures told { IfOk result (λ a. replied reply (told a) ≡ replied bytes (answer (due_copy (S.ChainStore.meaning store.old) S.ChainStore.layer head (at + count)) (take count (drop at (bytes_of (S.ChainStore.meaning store.old) head))))) }
+    ensures told { IfOk result (λ a. replied reply (told a) ≡ replied bytes (answer (due_copy (S.ChainStore.meaning store.old) S.ChainStore.LAYER head (at + count)) (take count (drop at (bytes_of (S.ChainStore.meaning store.old) head))))) }
     ensures left { S.ChainStore.meaning store.new ≡ S.ChainStore.meaning store.old }
     ensures sound { S.ChainStore.sound store.old → S.ChainStore.sound store.new }
 {
@@ -88,7 +88,7 @@ pub fn ask<S: ChainStore>(
     store: &mut S,
     call: Call,
 ) -> Result<Result<Answer, StoreFault>, AllocError>
-    ensures answered { MatchResult result (λ a. Answered (S.ChainStore.meaning store.old) S.ChainStore.layer call (replied reply (told a)) (S.ChainStore.meaning store.new)) (λ _. S.ChainStore.meaning store.new ≡ S.ChainStore.meaning store.old) }
+    ensures answered { MatchResult result (λ a. Answered (S.ChainStore.meaning store.old) S.ChainStore.LAYER call (replied reply (told a)) (S.ChainStore.meaning store.new)) (λ _. S.ChainStore.meaning store.new ≡ S.ChainStore.meaning store.old) }
     ensures sound { S.ChainStore.sound store.old → S.ChainStore.sound store.new }
 {
     match call {

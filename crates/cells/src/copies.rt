@@ -7,7 +7,7 @@ ghost use Rattle.chain.specs.Units.{Whole};
 ghost use Rattle.store.specs.Meaning.{Notes, due_copy, read_into, wrote};
 
 use crate::{Cells, UNIT};
-use chain::pieces::{Units, read_chain, write_chain};
+use chain::pieces::{Units, read_chain, within, write_chain};
 use store::faults::Refusal;
 
 impl Units for Cells {
@@ -51,7 +51,7 @@ impl Cells {
     {
         let units = self.units(head).ok_or(Refusal::NotHead)?;
         let long = u64::from(units) * UNIT as u64;
-        if count as u64 <= long && at <= long - count as u64 {
+        if within(long, at, count) {
             Ok(())
         } else {
             Err(Refusal::PastEnd)

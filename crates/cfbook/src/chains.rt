@@ -7,6 +7,7 @@ use std::alloc::Global;
 use store::stores::ChainStore;
 
 // The call of a line, or nothing where it has no word; a word that begins with # starts a comment.
+// Kept: beside that of `calls`, as the program parts words at other white space too.
 fn call_of(heap: Global, line: &str) -> Result<Option<Call>, Fault<NotACall>> {
     let words: Vec<&str> = line
         .split_whitespace()

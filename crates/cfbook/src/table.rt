@@ -66,8 +66,9 @@ impl fmt::Display for Report<'_> {
     }
 }
 
-// The table that a text writes, a word at a time, so that no more than the table is held; a word that begins with # starts a
-// comment.
+// The table that a text writes; a word that begins with # starts a comment.
+// Kept: beside that of `calls`, as the program parts words at other white space too, and holds one word at a time. The words
+// of a line are had by the same two steps as in `chains`: an iterator with a closure is no type that a function could answer.
 fn read_table(heap: Global, text: &str) -> anyhow::Result<Links> {
     let mut table = Links::new();
     for (i, line) in text.lines().enumerate() {

@@ -1,7 +1,7 @@
 //! Copying at an offset of a chain, split into pieces that lie in one unit. Drawer, file and mini store read and write
 //! their chains by this text and by no other.
 
-ghost use Rattle.std.specs.Prelude.{◌≡◌, ℕ, ◌+◌, ◌*◌, ◌^◌, ◌<◌, ◌≤◌, length, take, drop, slice_index};
+ghost use Rattle.std.specs.Prelude.{◌≡◌, ℕ, ◌+◌, ◌*◌, ◌^◌, ◌<◌, ◌≤◌, length, take, drop, slice_index, nat_le};
 ghost use Rattle.chain.specs.Units.{View, Whole, cell, content, put, at_start, On, piece, done_by, Moved, Wrote};
 
 // Units of one size, each on a chain or on none. Its calls are made by the functions below alone.
@@ -109,6 +109,13 @@ impl Cursor {
             to: self.done,
         })
     }
+}
+
+// Whether so many bytes from an offset on lie within a chain of so many bytes.
+pub fn within(long: u64, at: u64, count: usize) -> bool
+    ensures { result ≡ nat_le (at + count) long }
+{
+    count as u64 <= long && at <= long - count as u64
 }
 
 // Fills the buffer with the bytes of a chain from an offset on. Called by the stores, once they have seen that the chain

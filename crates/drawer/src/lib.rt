@@ -86,9 +86,9 @@ impl ChainStore for Drawer {
 
     ghost meaning = { drawn };
 
-    ghost layer = { 2 };
+    ghost LAYER = { 2 };
 
-    ghost most = { 64 };
+    ghost MOST = { 64 };
 
     ghost lawful = { λ d. lawfully d.cells.notes (sound_of d.cells) d.cells.bytes d.cells.filled (noted d) };
 

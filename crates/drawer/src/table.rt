@@ -10,6 +10,7 @@ use store::entries::{Entry, ObjType};
 use store::faults::Refusal;
 
 // The directory entries, sixteen.
+// Kept: an array, as their number is fixed, and memory too.
 #[derive(Drop)]
 pub struct Table {
     entries: [Entry; 16],

@@ -20,6 +20,7 @@ pub enum LinkFault {
 
 impl LinkFault {
     // The number of the refusal (docs/REFUSALS.md).
+    // Kept: a match, as its variants hold a place, so that there is no cast; the enum of all numbers is of a crate above.
     pub fn number(&self) -> u8
         ensures { result ≡ number_of self.now }
     {
@@ -70,6 +71,7 @@ pub fn check<T: LinkTable>(table: &T) -> Result<(), LinkFault>
     ensures lowest { Lowest (T.links table.now) result }
     ensures decides { (result ≡ Ok tt) ↔ Checked (at (T.links table.now)) }
 {
+    // Kept: an array, as all marks are used, one for each place that a table may have; no length stands beside them.
     let mut met = [false; MOST_LINKS as usize];
     for place in 0..table.count() {
         let link = link_or_free(table, place);

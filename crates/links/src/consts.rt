@@ -1,6 +1,7 @@
 //! The numbers that a link can be. 0 to 0xfffffffa are pointers: the number of the next place.
 //! The three numbers between the pointers and END are neither pointer, END nor FREE, and may stand in a table.
-// Kept: links are numbers and no enum, as a table is written back as it was read, and any number may stand in one.
+// Kept: links are numbers and no enum. Any number may stand in a table, so an enum would need a variant for the others, each
+// get and set would convert, and a table of 4,096 would take more than its 16 KiB.
 
 // The largest pointer.
 pub const MAX_REGULAR_SECTOR: u32 = 0xffff_fffa;
@@ -11,7 +12,7 @@ pub const FAT_SECTOR: u32 = 0xffff_fffd;
 // Marks a sector of the DIFAT.
 pub const DIFAT_SECTOR: u32 = 0xffff_fffc;
 
-// Kept free by the format.
+// The format leaves it unused.
 pub const INVALID_SECTOR: u32 = 0xffff_fffb;
 
 // The place is the last of its chain.

@@ -28,6 +28,7 @@ impl Links {
     }
 
     // One link more, behind the others; or false, and no change, where there are 4,096.
+    // Kept: a bool, as with `set`.
     pub fn push(&mut self, link: u32) -> bool
         ensures told { result ≡ nat_lt (length (links_of self.old)) 4096 }
         ensures after { links_of self.new ≡ (if result then links_of self.old ++ link ∷ [] else links_of self.old) }
@@ -89,4 +90,6 @@ impl LinkTable for Links {
         *held = link;
         true
     }
+
+    ghost few = { λ t. t.few };
 }

@@ -29,9 +29,13 @@ pub trait LinkTable {
         ensures { result ≡ slice_get (links self.now) place };
 
     // Sets the link at a place and says so, or sets nothing where the place is not below the count.
+    // Kept: a bool, as the insert of the library's sets: most callers ask for no answer, and a Result would have each say so.
     fn set(&mut self, place: u32, link: u32) -> bool
         ensures told { result ≡ nat_lt place (length (links self.old)) }
         ensures after { links self.new ≡ slice_set (links self.old) place link };
+
+    // No kind of table has more links than `count` may tell.
+    ghost few: { (t : Self) → length (links t) ≤ 4096 };
 }
 
 #[cfg(test)]

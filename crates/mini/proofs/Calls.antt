@@ -1,7 +1,8 @@
 -- The calls of linked units, by what the table's calls and the host's leave.
 -- Assumes nothing.
-use Rattle.std.proofs.Common.{◌≡◌, ℕ, ◌+◌, ◌*◌, ◌%◌, ◌<◌, ◌≤◌, Bool, true, cond, eqb, ltb, List, [], ◌∷◌, length, set, Some, None, count_by, sym, refl, ap, ◌∙◌, subst, arith}
+use Rattle.std.proofs.Common.{◌≡◌, ℕ, ◌+◌, ◌*◌, ◌%◌, ◌<◌, ◌≤◌, Bool, true, cond, eqb, ltb, List, [], ◌∷◌, length, set, Some, None, Option, count_by, sym, refl, ap, ◌∙◌, subst, arith}
 use Rattle.std.proofs.lemmas.Bool.{lt-ltb, and_from, eq-eqb, ne_eqb, or_left, cond-false}
+use Rattle.std.proofs.lemmas.Option.{same_Some}
 use Rattle.links.specs.Links.{END, POINTERS, free, at}
 use Rattle.links.specs.Stack.{has_room, place_after, links_taken, stack_taken, joinable, onward}
 use Rattle.links.proofs.Frees.{stack_count}
@@ -17,6 +18,19 @@ use Rattle.mini.proofs.Growths.{dry-one}
 use Rattle.mini.proofs.States.{entered_yes}
 use Rattle.mini.proofs.Takes.{Made, Prepared, prepared_grown, prepared_popped, took_made, put_made, place_link}
 use Rattle.mini.proofs.Weaves.{took_took, took_taken, put_behind, ended_ended, gave_gave}
+
+-- a place p was taken
+pub record Takes (m : Store) (L S : List ℕ) (s : Store) (L' S' : List ℕ) (p : ℕ) : Type 0 where
+  pub told : p ≡ place_after L S
+  pub made : Made m L s L' S' (took_mini (web_of m L S))
+  pub took : Took (web_of m L S) (web_of s L' S') p
+  pub taken : Taken (at L) (at L') p
+
+-- a place p was taken, and joined behind the last one
+pub record Joins (m : Store) (L S : List ℕ) (s : Store) (L' S' : List ℕ) (last p : ℕ) : Type 0 where
+  pub told : p ≡ place_after L S
+  pub made : Made m L s L' S' (put_mini (web_of m L S) last)
+  pub behind : Behind (web_of m L S) (web_of s L' S') last p
 
 module _ (most : ℕ) (m : Store) (ok : Lawful most m) (h : Hosted m) (L : List ℕ) (few : length L ≤ 4096) (b : Borne m (length L)) where
   -- the root length that is set is not cut short
@@ -49,72 +63,68 @@ module _ (most : ℕ) (m : Store) (ok : Lawful most m) (h : Hosted m) (L : List 
     room = refl;
   }
 
-  module _ (S L' S' : List ℕ) (layer : ℕ) (fresh : Bool) (kept : Kept L S) (ready : 0 < (web_of m L S).ready) (ef : fresh ≡ eqb (length S) 0) where
+  module _ (S : List ℕ) (layer : ℕ) (fresh : Bool) (kept : Kept L S) (ready : 0 < (web_of m L S).ready) (ef : fresh ≡ eqb (length S) 0) where
     there : Ready S layer fresh
     there = ready_for S layer fresh kept ready ef
 
     -- a place can be taken
-    pub take_none : None ≡ cond (has_room L S) (Some (place_after L S)) None → ⊥
-    take_none e = let q : None ≡ Some (place_after L S) = rw there.room at e in cc
-
-    pub place_is : (p : ℕ) → Some p ≡ cond (has_room L S) (Some (place_after L S)) None → p ≡ place_after L S
-    place_is p e = let q : Some p ≡ Some (place_after L S) = rw there.room at e in cc
+    pub take_is : cond (has_room L S) (Some (place_after L S)) None ≡ Some (place_after L S)
+    take_is = rw there.room refl
 
     -- and is zeroed
-    pub place_bytes : place_after L S * 64 + 64 ≤ length (bytes_of m (stream_at m))
+    place_bytes : place_after L S * 64 + 64 ≤ length (bytes_of m (stream_at m))
     place_bytes = there.prepared.bytes
 
-    pub take_made : (s : Store) (p : ℕ) → p ≡ place_after L S → L' ≡ cond (has_room L S) (links_taken L S) L → S' ≡ stack_taken S → s ≡ occupied m layer fresh p
-        → Made m L s L' S' (took_mini (web_of m L S))
-    take_made s p ep el es e =
+    -- the table's call gave r, which is p; s is the host then
+    pub take_done : (L' S' : List ℕ) (s : Store) (r : Option ℕ) (p : ℕ) → r ≡ cond (has_room L S) (Some (place_after L S)) None → r ≡ Some p → L' ≡ cond (has_room L S) (links_taken L S) L → S' ≡ stack_taken S → s ≡ occupied m layer fresh p
+        → Takes m L S s L' S' p
+    take_done L' S' s r p er rp el es e =
+        let ep : p ≡ place_after L S = same_Some p (place_after L S) (sym rp ∙ er ∙ take_is) in
+        let w = web_of m L S in
         let t : L' ≡ links_taken L S = rw there.room at el in
         let q : s ≡ wiped_at (link_wrote there.host layer (place_after L S) END) layer (place_after L S) =
         e ∙ (λ i. wiped_at (link_wrote (there.made i) layer (ep i) END) layer (ep i)) in
-        let P : List ℕ → List ℕ → Type 0 = λ M T. Made m L s M T (took_mini (web_of m L S)) in
-        let k : Made m L s (links_taken L S) (stack_taken S) (took_mini (web_of m L S)) =
+        let P : List ℕ → List ℕ → Type 0 = λ M T. Made m L s M T (took_mini w) in
+        let k : Made m L s (links_taken L S) (stack_taken S) (took_mini w) =
         took_made layer m there.host (link_wrote there.host layer (place_after L S) END) s L S there.long there.prepared refl q kept few in
-        subst (λ M. P M S') (sym t) (subst (λ T. P (links_taken L S) T) (sym es) k)
-
-    module _ (s : Store) (p : ℕ) (ep : p ≡ place_after L S) (el : L' ≡ cond (has_room L S) (links_taken L S) L) (es : S' ≡ stack_taken S) (e : s ≡ occupied m layer fresh p) where
-      pub take_took : Took (web_of m L S) (web_of s L' S') p
-      take_took =
-          let w = web_of m L S in
-          subst (λ v. Took w v p) (sym (take_made s p ep el es e).web) (subst (λ q. Took w (took_mini w) q) (sym ep) (took_took m L S few kept place_bytes ready))
-
-      pub take_taken : Taken (at L) (at L') p
-      take_taken =
-          let t : L' ≡ links_taken L S = rw there.room at el in
-          subst (λ M. Taken (at L) (at M) p) (sym t) (subst (λ q. Taken (at L) (at (links_taken L S)) q) (sym ep) (took_taken m L S few kept place_bytes ready))
+        let made = subst (λ M. P M S') (sym t) (subst (λ T. P (links_taken L S) T) (sym es) k) in
+        record {
+          told = ep;
+          made = made;
+          took = subst (λ v. Took w v p) (sym made.web) (subst (λ x. Took w (took_mini w) x) (sym ep) (took_took m L S few kept place_bytes ready));
+          taken = subst (λ M. Taken (at L) (at M) p) (sym t) (subst (λ x. Taken (at L) (at (links_taken L S)) x) (sym ep) (took_taken m L S few kept place_bytes ready));
+        }
 
     -- and joined behind a place that ends its chain
     module _ (last : ℕ) (end : at L last ≡ END) where
       can_join : joinable L S last ≡ true
       can_join = and_from _ _ (eq-eqb (at L last) END end) there.room
 
-      pub join_none : None ≡ cond (joinable L S last) (Some (place_after L S)) None → ⊥
-      join_none e = let q : None ≡ Some (place_after L S) = rw can_join at e in cc
+      pub join_is : cond (joinable L S last) (Some (place_after L S)) None ≡ Some (place_after L S)
+      join_is = rw can_join refl
 
-      pub joined_is : (p : ℕ) → Some p ≡ cond (joinable L S last) (Some (place_after L S)) None → p ≡ place_after L S
-      joined_is p e = let q : Some p ≡ Some (place_after L S) = rw can_join at e in cc
-
-      pub join_made : (s u : Store) (p : ℕ) → p ≡ place_after L S → L' ≡ cond (joinable L S last) (set (links_taken L S) last (place_after L S)) L
+      -- s is the host when the place is taken, and u when the link to it is written
+      pub join_done : (L' S' : List ℕ) (s u : Store) (r : Option ℕ) (p : ℕ) → r ≡ cond (joinable L S last) (Some (place_after L S)) None → r ≡ Some p
+          → L' ≡ cond (joinable L S last) (set (links_taken L S) last (place_after L S)) L
           → S' ≡ cond (joinable L S last) (stack_taken S) S → Kept L' S' → s ≡ occupied m layer fresh p → u ≡ link_wrote s layer last p
-          → Made m L u L' S' (put_mini (web_of m L S) last)
-      join_made s u p ep el es k e eu =
+          → Joins m L S u L' S' last p
+      join_done L' S' s u r p er rp el es k e eu =
+          let ep : p ≡ place_after L S = same_Some p (place_after L S) (sym rp ∙ er ∙ join_is) in
+          let x = web_of m L S in
           let t : L' ≡ set (links_taken L S) last (place_after L S) = rw can_join at el in
           let w : S' ≡ stack_taken S = rw can_join at es in
           let s3 = wiped_at (link_wrote there.host layer (place_after L S) END) layer (place_after L S) in
           let q : s ≡ s3 = e ∙ (λ i. wiped_at (link_wrote (there.made i) layer (ep i) END) layer (ep i)) in
           let v : u ≡ link_wrote s3 layer last (place_after L S) = eu ∙ (λ i. link_wrote (q i) layer last (ep i)) in
           let same : count_by free L' ≡ count_by free (links_taken L S) = omega (arith, stack_count L' S' k, stack_count _ _ (kept_taken L S few kept), ap length w) in
-          let P : List ℕ → Type 0 = λ T. Made m L u L' T (put_mini (web_of m L S) last) in
-          subst P (sym w) (put_made layer m there.host (link_wrote there.host layer (place_after L S) END) s3 L S there.long there.prepared refl refl u last L'
-          (place_link most layer m ok h L S few kept b last (omega arith)) v t same kept few end)
-
-      pub join_behind : (u : Store) (p : ℕ) → p ≡ place_after L S → Made m L u L' S' (put_mini (web_of m L S) last) → Behind (web_of m L S) (web_of u L' S') last p
-      join_behind u p ep made =
-          let w = web_of m L S in
-          subst (λ v. Behind w v last p) (sym made.web) (subst (λ q. Behind w (put_mini w last) last q) (sym ep) (put_behind m L S few kept place_bytes ready last end))
+          let P : List ℕ → Type 0 = λ T. Made m L u L' T (put_mini x last) in
+          let made = subst P (sym w) (put_made layer m there.host (link_wrote there.host layer (place_after L S) END) s3 L S there.long there.prepared refl refl u last L'
+          (place_link most layer m ok h L S few kept b last (omega arith)) v t same kept few end) in
+          record {
+            told = ep;
+            made = made;
+            behind = subst (λ y. Behind x y last p) (sym made.web) (subst (λ y. Behind x (put_mini x last) last y) (sym ep) (put_behind m L S few kept place_bytes ready last end));
+          }
 
 -- what a cut and a giving back did
 module _ (m : Store) (L S : List ℕ) (few : length L ≤ 4096) (kept : Kept L S) (s : Store) (L' S' : List ℕ) (p : ℕ) where
@@ -133,8 +143,8 @@ module _ (x : ℕ) (l : x < POINTERS) where
   points : onward x ≡ true
   points = or_left (ltb x POINTERS) (eqb x END) (lt-ltb x POINTERS l)
 
-  pub cut_told : (r : ℕ) → Some r ≡ cond (onward x) (Some x) None → r ≡ x
-  cut_told r e = let q : Some r ≡ Some x = rw points at e in cc
+  pub cut_is : cond (onward x) (Some x) None ≡ Some x
+  cut_is = rw points refl
 
   pub cut_table : (M L L' : List ℕ) → L' ≡ cond (onward x) M L → L' ≡ M
   cut_table M L L' e = rw points at e

@@ -3,9 +3,9 @@
 use Rattle.std.proofs.Common.{◌≡◌, ℕ, ◌+◌, ◌*◌, ◌<◌, ◌≤◌, cond, ltb, List, [], ◌∷◌, length, get_or, take, drop, Some, None, sym, refl, ap, ◌∙◌, inl, arith}
 use Rattle.std.specs.List.{slice_get}
 use Rattle.std.proofs.lemmas.Bool.{cond-false, le-ltb}
-use Rattle.links.specs.Links.{at, In}
+use Rattle.std.proofs.lemmas.Option.{slice_get-get_or}
+use Rattle.links.specs.Links.{FREE, at, In}
 use Rattle.links.proofs.Counts.{inside}
-use Rattle.links.proofs.Lookups.{some_link, no_link}
 use Rattle.links.proofs.Paths.{used}
 use Rattle.store.specs.Refusals.{unless}
 use Rattle.store.specs.Meaning.{Store, bytes_of, laid, with_chain, headed, refuse, due_copy, read_into, wrote}
@@ -21,14 +21,11 @@ use Rattle.mini.proofs.Swaps.{bytes_here, borne_same, sealed_stream}
 
 -- the link at a place of a chain is there, and is the next place
 module _ (w : Web) (ok : Woven w) (h r p : ℕ) (here : p ≡ get_or (path_of w.links h) r 0) (more : r + 1 < length (path_of w.links h)) where
-  pub next_some : (x : ℕ) → Some x ≡ slice_get w.links p → x ≡ get_or (path_of w.links h) (r + 1) 0
-  next_some x e = (some_link w.links p x e).1 ∙ ap (at w.links) here ∙ next_place w ok h r more
-
-  pub next_none : None ≡ slice_get w.links p → ⊥
-  next_none e =
+  pub next_is : slice_get w.links p ≡ Some (get_or (path_of w.links h) (r + 1) 0)
+  next_is =
       let d = path_head w ok h (omega arith) in
       let i : In p (path_of w.links h) = rw here (in_get_d (path_of w.links h) r (omega arith)) in
-      omega (arith, no_link w.links p e, inside w.links p (used _ h p _ d.path i).0)
+      slice_get-get_or w.links p FREE (inside w.links p (used _ h p _ d.path i).0) ∙ ap Some (ap (at w.links) here ∙ next_place w ok h r more)
 
 module _ (m : Store) (layer p i : ℕ) (place : p * 64 + 64 ≤ length (bytes_of m (stream_at m))) where
   -- a read within a mini sector

@@ -24,7 +24,7 @@ fn low(number: u64) -> u32
 
 // Writes a link into the MiniFAT.
 pub fn write_link<H: Host>(host: &mut H, place: u32, link: u32)
-    ensures { H.ChainStore.meaning host.new ≡ link_wrote (H.ChainStore.meaning host.old) H.ChainStore.layer place link }
+    ensures { H.ChainStore.meaning host.new ≡ link_wrote (H.ChainStore.meaning host.old) H.ChainStore.LAYER place link }
 {
     let words = host.words();
     let bytes = link.to_le_bytes();
@@ -33,7 +33,7 @@ pub fn write_link<H: Host>(host: &mut H, place: u32, link: u32)
 
 // Fills the buffer from an offset of the mini stream, or leaves it as it is where the mini stream has not so many bytes.
 pub fn read_stream<H: Host>(host: &mut H, at: u64, out: &mut [u8])
-    ensures out { out.new ≡ read_into (H.ChainStore.meaning host.old) H.ChainStore.layer (stream_at (H.ChainStore.meaning host.old)) at out.old }
+    ensures out { out.new ≡ read_into (H.ChainStore.meaning host.old) H.ChainStore.LAYER (stream_at (H.ChainStore.meaning host.old)) at out.old }
     ensures left { H.ChainStore.meaning host.new ≡ H.ChainStore.meaning host.old }
 {
     let entry = root(host);
@@ -42,7 +42,7 @@ pub fn read_stream<H: Host>(host: &mut H, at: u64, out: &mut [u8])
 
 // Lays bytes over those of the mini stream from an offset on, or leaves them where it has not so many.
 pub fn write_stream<H: Host>(host: &mut H, at: u64, src: &[u8])
-    ensures { H.ChainStore.meaning host.new ≡ wrote (H.ChainStore.meaning host.old) H.ChainStore.layer (stream_at (H.ChainStore.meaning host.old)) at src.now }
+    ensures { H.ChainStore.meaning host.new ≡ wrote (H.ChainStore.meaning host.old) H.ChainStore.LAYER (stream_at (H.ChainStore.meaning host.old)) at src.now }
 {
     let entry = root(host);
     let _ = host.write(entry.start, at, src);
@@ -50,7 +50,7 @@ pub fn write_stream<H: Host>(host: &mut H, at: u64, src: &[u8])
 
 // Zeroes a mini sector.
 pub fn wipe<H: Host>(host: &mut H, place: u32)
-    ensures { H.ChainStore.meaning host.new ≡ wiped_at (H.ChainStore.meaning host.old) H.ChainStore.layer place }
+    ensures { H.ChainStore.meaning host.new ≡ wiped_at (H.ChainStore.meaning host.old) H.ChainStore.LAYER place }
 {
     let at = u64::from(place) * u64::from(MINI_SECTOR_LEN);
     write_stream(host, at, &[0; MINI_SECTOR_LEN as usize]);
@@ -58,7 +58,7 @@ pub fn wipe<H: Host>(host: &mut H, place: u32)
 
 // The root is longer by 64 bytes.
 fn lengthen_root<H: Host>(host: &mut H)
-    ensures { H.ChainStore.meaning host.new ≡ longer_root (H.ChainStore.meaning host.old) H.ChainStore.layer }
+    ensures { H.ChainStore.meaning host.new ≡ longer_root (H.ChainStore.meaning host.old) H.ChainStore.LAYER }
 {
     let entry = root(host);
     let long = low(entry.length).wrapping_add(MINI_SECTOR_LEN);
@@ -67,7 +67,7 @@ fn lengthen_root<H: Host>(host: &mut H)
 
 // The root is shorter by 64 bytes for each of so many places.
 pub fn shorten_root<H: Host>(host: &mut H, count: u32)
-    ensures { H.ChainStore.meaning host.new ≡ shorter_root (H.ChainStore.meaning host.old) H.ChainStore.layer count }
+    ensures { H.ChainStore.meaning host.new ≡ shorter_root (H.ChainStore.meaning host.old) H.ChainStore.LAYER count }
 {
     let entry = root(host);
     let gone = u64::from(MINI_SECTOR_LEN) * u64::from(count);
@@ -77,7 +77,7 @@ pub fn shorten_root<H: Host>(host: &mut H, count: u32)
 // A place is taken: where it is fresh the root is longer by 64 bytes; it is linked END, and its mini sector zeroed.
 // Kept: `fresh` is a parameter, as without it take and append of the mini store would each test it and lengthen the root.
 pub fn occupy<H: Host>(host: &mut H, fresh: bool, place: u32)
-    ensures { H.ChainStore.meaning host.new ≡ occupied (H.ChainStore.meaning host.old) H.ChainStore.layer fresh place }
+    ensures { H.ChainStore.meaning host.new ≡ occupied (H.ChainStore.meaning host.old) H.ChainStore.LAYER fresh place }
 {
     if fresh {
         lengthen_root(host);
@@ -88,7 +88,7 @@ pub fn occupy<H: Host>(host: &mut H, fresh: bool, place: u32)
 
 // A place is given back: it is linked FREE, and its mini sector zeroed.
 pub fn vacate<H: Host>(host: &mut H, place: u32)
-    ensures { H.ChainStore.meaning host.new ≡ vacated (H.ChainStore.meaning host.old) H.ChainStore.layer place }
+    ensures { H.ChainStore.meaning host.new ≡ vacated (H.ChainStore.meaning host.old) H.ChainStore.LAYER place }
 {
     write_link(host, place, FREE_SECTOR);
     wipe(host, place);
@@ -96,7 +96,7 @@ pub fn vacate<H: Host>(host: &mut H, place: u32)
 
 // So many sectors more at the end of a chain, or as a new chain where there is none; answers its head.
 fn grow<H: Host>(host: &mut H, start: u32, count: u32) -> Result<u32, StoreFault>
-    ensures { Grows (H.ChainStore.meaning host.old) H.ChainStore.layer start count (told result) (H.ChainStore.meaning host.new) }
+    ensures { Grows (H.ChainStore.meaning host.old) H.ChainStore.LAYER start count (told result) (H.ChainStore.meaning host.new) }
 {
     if start == END_OF_CHAIN {
         return host.begin(count);
@@ -107,8 +107,9 @@ fn grow<H: Host>(host: &mut H, start: u32, count: u32) -> Result<u32, StoreFault
 
 // Fills sectors of a chain with FREE links, from a rank on.
 fn fill<H: Host>(host: &mut H, head: u32, from: u32, count: u32)
-    ensures { H.ChainStore.meaning host.new ≡ filled count (H.ChainStore.meaning host.old) H.ChainStore.layer head from }
+    ensures { H.ChainStore.meaning host.new ≡ filled count (H.ChainStore.meaning host.old) H.ChainStore.LAYER head from }
 {
+    // Kept: of the largest unit's size, as there is no heap; the slice of a unit is written.
     let free = [0xff; 4096];
     let unit = host.unit();
     for rank in 0..count {
@@ -120,7 +121,7 @@ fn fill<H: Host>(host: &mut H, head: u32, from: u32, count: u32)
 // Adds sectors to the MiniFAT, filled with FREE, and tells the header words of them. For none, nothing is done; a host
 // that refuses stays as it is.
 pub fn add_fats<H: Host>(host: &mut H, count: u32)
-    ensures { AddsFats (H.ChainStore.meaning host.old) H.ChainStore.layer count (H.ChainStore.meaning host.new) }
+    ensures { AddsFats (H.ChainStore.meaning host.old) H.ChainStore.LAYER count (H.ChainStore.meaning host.new) }
 {
     if count == 0 {
         return;
@@ -138,7 +139,7 @@ pub fn add_fats<H: Host>(host: &mut H, count: u32)
 // Adds sectors to the mini stream, and tells the root entry where it starts. A host that refuses stays as it is.
 // Kept: beside add_fats, as words and entry are asked for and set by other calls and only one fills; both share `grow`.
 pub fn add_minis<H: Host>(host: &mut H, count: u32)
-    ensures { AddsMinis (H.ChainStore.meaning host.old) H.ChainStore.layer count (H.ChainStore.meaning host.new) }
+    ensures { AddsMinis (H.ChainStore.meaning host.old) H.ChainStore.LAYER count (H.ChainStore.meaning host.new) }
 {
     if count == 0 {
         return;
@@ -151,7 +152,7 @@ pub fn add_minis<H: Host>(host: &mut H, count: u32)
 
 // Adds the sectors for a whole growth: first those of the MiniFAT, then those of the mini stream.
 pub fn reserve<H: Host>(host: &mut H, g: Ground, more: u32)
-    ensures { Reserves H.ChainStore.most (H.ChainStore.meaning host.old) H.ChainStore.layer g more (H.ChainStore.meaning host.new) }
+    ensures { Reserves H.ChainStore.MOST (H.ChainStore.meaning host.old) H.ChainStore.LAYER g more (H.ChainStore.meaning host.new) }
 {
     add_fats(host, low(g.need_fats(more)));
     add_minis(host, low(g.need_minis(more)));

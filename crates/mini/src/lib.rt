@@ -44,7 +44,7 @@ pub fn root<H: Host>(host: &mut H) -> Entry
 
 // How many sectors the chain of a start has, or the host's refusal. From END there are none, where a size of 0 is told.
 pub fn sectors<H: Host>(host: &mut H, start: u32, size: u64) -> Result<u32, StoreFault>
-    ensures told { told result ≡ sectors_of (H.ChainStore.meaning host.old) H.ChainStore.layer start (size == 0) }
+    ensures told { told result ≡ sectors_of (H.ChainStore.meaning host.old) H.ChainStore.LAYER start (size == 0) }
     ensures left { H.ChainStore.meaning host.new ≡ H.ChainStore.meaning host.old }
 {
     if size == 0 && start == END_OF_CHAIN {

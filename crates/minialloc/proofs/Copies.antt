@@ -1,7 +1,6 @@
 -- Reading and writing along a chain that was found: what is asked of the copying, and what it leaves.
 -- Assumes nothing.
-use Rattle.std.proofs.Common.{◌≡◌, ℕ, ◌+◌, ◌*◌, ◌^◌, ◌<◌, ◌≤◌, true, false, leb, List, length, take, drop, Some, None, Ok, Result, sym, ap, ◌∙◌, subst, arith}
-use Rattle.std.proofs.lemmas.Bool.{leb-true, leb-false}
+use Rattle.std.proofs.Common.{◌≡◌, ℕ, ◌+◌, ◌*◌, ◌^◌, ◌<◌, ◌≤◌, List, length, take, drop, Some, None, Ok, Result, sym, ap, ◌∙◌, subst, arith}
 use Rattle.store.specs.declared.faults.Refusal.TheVariants.{PastEnd}
 use Rattle.store.specs.Refusals.{Refused, refused_by, answer}
 use Rattle.store.specs.Meaning.{Store, bytes_of, units_of, laid, with_chain, due_head, due_copy, read_into, wrote}
@@ -25,22 +24,22 @@ module _ {most : ℕ} {s z : State} {h r : ℕ} {f : Found} (a : Seen most s z h
   units_told = ap Ok (sym units_here) ∙ told_yes _ (units_of (meant_in s) h) (some_due (meant_in s) 3 h _ chain_here None)
 
   -- a copy past its end
-  pub past_due : (end : ℕ) → leb end (f.chain.units * 64) ≡ false → due_copy (meant_in s) 3 h end ≡ Some (refused_by (record { refusal = PastEnd; layer = 3; place = h }))
+  pub past_due : (end : ℕ) → f.chain.units * 64 < end → due_copy (meant_in s) 3 h end ≡ Some (refused_by (record { refusal = PastEnd; layer = 3; place = h }))
   past_due end past = copy_no (meant_in s) 3 h _ chain_here end
-      (omega (arith, leb-false end (f.chain.units * 64) past, ap (λ (x : Store). length (bytes_of x h)) a.base.means, ap length a.chained.bytes, a.chained.long))
+      (omega (arith, past, ap (λ (x : Store). length (bytes_of x h)) a.base.means, ap length a.chained.bytes, a.chained.long))
 
   -- a copy within it
-  module _ (i k : ℕ) (within : leb (i + k) (f.chain.units * 64) ≡ true) where
+  module _ (i k : ℕ) (within : i + k ≤ f.chain.units * 64) where
     pub copy_whole : i + k ≤ length (content (viewed (web_in z)) h)
-    copy_whole = omega (arith, leb-true _ _ within, a.chained.long)
+    copy_whole = omega (arith, within, a.chained.long)
 
     pub copy_fits : i + k < 2 ^ 32
-    copy_fits = omega (arith, leb-true _ _ within, a.few)
+    copy_fits = omega (arith, within, a.few)
 
     long : i + k ≤ length (bytes_of (stored (web_in z)) h)
-    long = omega (arith, leb-true _ _ within, ap length a.chained.bytes, a.chained.long)
+    long = omega (arith, within, ap length a.chained.bytes, a.chained.long)
 
-  pub read_yes : (i : ℕ) (out got : List ℕ) → leb (i + length out) (f.chain.units * 64) ≡ true → got ≡ take (length out) (drop i (content (viewed (web_in z)) h))
+  pub read_yes : (i : ℕ) (out got : List ℕ) → i + length out ≤ f.chain.units * 64 → got ≡ take (length out) (drop i (content (viewed (web_in z)) h))
       → ◌≡◌ {A = Result (Unit {0}) Refused} (Ok tt) (answer (due_copy (meant_in s) 3 h (i + length out)) tt) × (got ≡ read_into (meant_in s) 3 h i out)
   read_yes i out got l is = read_done (meant_in s) (stored (web_in z)) (stored (web_in z)) 3 a.base.means h _ a.chained.chain i out got
       (long i (length out) l) (is ∙ ap (λ xs. take (length out) (drop i xs)) (sym a.chained.bytes))
@@ -59,7 +58,7 @@ module _ {most : ℕ} {s z : State} {h r : ℕ} {f : Found} (a : Seen most s z h
       some : 0 < length (path_of z.links h)
       some = omega (arith, a.chained.some, a.units)
 
-      pub write_yes : leb (i + length ys) (f.chain.units * 64) ≡ true
+      pub write_yes : i + length ys ≤ f.chain.units * 64
           → ◌≡◌ {A = Result (Unit {0}) Refused} (Ok tt) (answer (due_copy (meant_in s) 3 h (i + length ys)) tt) × (meant_in u ≡ wrote (meant_in s) 3 h i ys)
       write_yes l = wrote_done (meant_in s) (stored (web_in z)) (meant_in u) 3 a.base.means h _ a.chained.chain i ys (long i (length ys) l)
           (means_open most u.host ok.lawful u.links u.stack ok.few ok.kept u.opened sound.0 sound.1

@@ -1,7 +1,7 @@
 -- Beginning and extending a chain: the sectors are reserved, and so many mini sectors are ready.
 -- Assumes nothing.
 use Rattle.std.proofs.Common.{◌≡◌, ℕ, zero, suc, ◌+◌, ◌-◌, ◌<◌, ◌≤◌, true, ◌≢◌, List, [], ◌∷◌, ◌++◌, length, Some, None, Ok, count_by, Option, Result, sym, refl, ap, ◌∙◌, subst, arith}
-use Rattle.std.specs.Option.{option_map, MatchOption}
+use Rattle.std.specs.Option.{MatchOption}
 use Rattle.links.specs.Links.{free, at, Head}
 use Rattle.links.specs.Walk.{last_or, reach}
 use Rattle.links.proofs.Frees.{stack_count}
@@ -18,10 +18,10 @@ use Rattle.mini.specs.Steps.{took_mini, put_mini}
 use Rattle.mini.proofs.Growths.{borne_fair}
 use Rattle.mini.proofs.Rests.{Reserved, reserved_done}
 use Rattle.mini.proofs.Told.{means_open}
-use Rattle.minialloc.specs.States.{State, figures_in, meant_in, web_in, next_mini, Sound, SyncedIn, Prepares, BeginsChain, ExtendsChain}
+use Rattle.minialloc.specs.States.{State, figures_in, meant_in, web_in, next_mini, Sound, SyncedIn, hosted_by, Prepared, Prepares, BeginsChain, ExtendsChain}
 use Rattle.minialloc.specs.declared.Found.{Found}
 use Rattle.minialloc.proofs.Copies.{chain_here}
-use Rattle.minialloc.proofs.Lasting.{Lasting, Based, based, Seen, still}
+use Rattle.minialloc.proofs.Lasting.{Lasting, Based, based, Seen}
 
 -- the last of a list, as a walk to its end finds it, and the list by it
 reach_last : (d : ℕ) (ps : List ℕ) (r : ℕ) → length ps ≤ r → reach d ps r ≡ last_or d ps
@@ -39,71 +39,91 @@ module _ {most : ℕ} {s z : State} {h r : ℕ} {f : Found} (a : Seen most s z h
   last_of : f.chain.place ≡ last_or 0 (path_of z.links h)
   last_of = a.place ∙ reach_last 0 (path_of z.links h) r (omega (arith, l, a.units))
 
-  pub ends_of : (es : List ℕ) × Head (at z.links) h (es ++ f.chain.place ∷ [])
-  ends_of =
+  pub ends_of : {y : State} → y ≡ hosted_by s y.host → (es : List ℕ) × Head (at y.links) h (es ++ f.chain.place ∷ [])
+  ends_of over =
       let b = by_last 0 (path_of z.links h) (omega (arith, a.chained.some, a.units)) in
-      (b.0, subst (λ e. Head (at z.links) h (b.0 ++ e ∷ [])) (sym last_of) (subst (λ ps. Head (at z.links) h ps) b.1 a.chained.head))
+      let e = ap (λ (x : State). x.links) a.base.same ∙ sym (ap (λ (x : State). x.links) over) in
+      (b.0, subst (λ L. Head (at L) h (b.0 ++ f.chain.place ∷ [])) e (subst (λ p. Head (at z.links) h (b.0 ++ p ∷ [])) (sym last_of) (subst (λ ps. Head (at z.links) h ps) b.1 a.chained.head)))
 
 -- the room, by the FREE places and the growth
-pub room_of : {most : ℕ} {s z : State} {g : Ground} (b : Based most s z g) → (meant_in s).room ≡ length z.stack + growth g
-room_of {most} {s} {z} b = ap (λ (x : Store). x.room) b.means ∙ (λ i. (sym (stack_count z.links z.stack b.lasts.kept)) i + growth (sym b.ground i))
+pub room_of : {most : ℕ} {s z : State} {g : Ground} (b : Based most s z g) → (meant_in s).room ≡ length s.stack + growth g
+room_of {most} {s} {z} {g} b =
+    ap (λ (x : Store). x.room) b.means ∙ (λ i. (sym (stack_count z.links z.stack b.lasts.kept)) i + growth (sym b.ground i)) ∙ ap (λ (x : State). length x.stack + growth g) b.same
 
--- the same mini store over another host
-abbrev pub hosted_by : State → Store → State
-hosted_by z v = record { opened = z.opened; host = v; links = z.links; stack = z.stack }
+-- a mini store y that is s over a host with the sectors for n mini sectors
+pub record Ready (most layer : ℕ) (s : State) (n : ℕ) (y : State) : Type 0 where
+  pub over : y ≡ hosted_by s y.host
+  pub prepares : Prepares most layer s n y.host
+  pub sound : Sound y
+  pub enough : n ≤ (web_in y).ready
+  pub roomy : n ≤ (web_in y).room
+  pub means : meant_in s ≡ stored (web_in y)
+  pub synced : SyncedIn s → SyncedIn y
 
--- a host v with the sectors for n mini sectors
-pub record Ready (most layer : ℕ) (s z : State) (n : ℕ) (v : Store) : Type 0 where
-  pub same : z ≡ s
-  pub prepares : Prepares most layer z n v
-  pub sound : Sound (hosted_by z v)
-  pub enough : n ≤ (web_in (hosted_by z v)).ready
-  pub roomy : n ≤ (web_in (hosted_by z v)).room
-  pub means : meant_in s ≡ stored (web_in (hosted_by z v))
-  pub synced : SyncedIn s → SyncedIn (hosted_by z v)
+-- y is the state when the host, m before and v after, has the sectors for k places; f were FREE. The place 0 here and below is
+-- free: only refusals tell one
+pub prepared : (most layer : ℕ) (s : State) (g : Ground) (n f k : ℕ) (m v : Store) (y : State) → n ≤ length s.stack + growth g → f ≡ length s.stack → k ≡ n - f → m ≡ s.host
+    → Reserves most m layer g k v → y ≡ hosted_by s v → Prepared most layer s g n 0 (Ok tt) y
+prepared most layer s g n f k m v y l ef ek em r e =
+    let q : Reserves most s.host layer g (n - length s.stack) v = subst (λ j. Reserves most s.host layer g j v) (ek ∙ ap (λ x. n - x) ef) (subst (λ x. Reserves most x layer g k v) em r) in
+    subst (λ x. Prepared most layer s g n 0 (Ok tt) x) (sym e) (l, q, refl)
 
--- f places are FREE
-pub ready : {most : ℕ} (layer : ℕ) {s z : State} {g : Ground} (b : Based most s z g) (n f k : ℕ) (v : Store) → n ≤ length z.stack + growth g → f ≡ length z.stack → k ≡ n - f → Reserves most z.host layer g k v → Ready most layer s z n v
-ready {most} layer {s} {z} {g} b n f k v l ef ek r =
-    let frees : f ≡ count_by free z.links = ef ∙ stack_count z.links z.stack b.lasts.kept in
-    let g0 = ground_of z.host (length z.links) in
-    let fit : fits g0 k ≡ true =
-    fits_down g0 k (growth g0) (largest-fits g0 (borne_fair most z.host (length z.links) b.lasts.lawful b.lasts.hosted b.lasts.few b.sound.1)) (omega (arith, l, ef, ek, ap growth b.ground)) in
-    let q : Reserves most z.host layer g0 k v = subst (λ x. Reserves most z.host layer x k v) b.ground r in
-    let a : Reserved z.host v z.links z.stack k = reserved_done most layer z.host q.0 v b.lasts.lawful q.1 b.lasts.hosted z.links z.stack b.lasts.few b.lasts.kept b.sound.1 k fit q.2 q.3 in
-    record {
-      same = b.same;
-      prepares = subst (λ j. Reserves most z.host layer g0 j v) (ek ∙ ap (λ j. n - j) frees) q;
-      sound = (b.sound.0, a.borne);
-      enough = omega (arith, a.ready, ek, frees);
-      roomy = omega (arith, a.room, l, ef, frees, ap growth b.ground);
-      means = b.means ∙ sym a.means;
-      synced = λ y. a.synced (still b.same y);
-    }
+module _ {most : ℕ} (layer : ℕ) {s z : State} {g : Ground} (b : Based most s z g) (n : ℕ) where
+  -- x, the same as s, is the state when it is prepared by those figures, and y the one after
+  pub ready : {x y : State} (left : x ≡ s) (ok : Lasting most y) → Prepared most layer x g n 0 (Ok tt) ok.shown.0 → Ready most layer s n y
+  ready {x} {y} left ok p =
+      let q : Prepared most layer z g n 0 (Ok tt) y = subst (λ w. Prepared most layer w g n 0 (Ok tt) y) (left ∙ sym b.same) (subst (λ w. Prepared most layer x g n 0 (Ok tt) w) ok.shown.1 p) in
+      let g0 = ground_of z.host (length z.links) in
+      let frees : length z.stack ≡ count_by free z.links = stack_count z.links z.stack b.lasts.kept in
+      let grows : growth g ≡ growth g0 = ap growth b.ground in
+      let r : Prepares most layer z n y.host =
+      subst (λ j. Reserves most z.host layer g0 (n - j) y.host) frees (subst (λ t. Reserves most z.host layer t (n - length z.stack) y.host) b.ground q.1) in
+      subst (λ w. Ready most layer s n w) (sym q.2) (subst (λ w. Ready most layer w n (hosted_by z y.host)) b.same (over y.host (omega (arith, q.0, frees, grows)) r))
+    where
+      over : (v : Store) → n ≤ count_by free z.links + growth (ground_of z.host (length z.links)) → Prepares most layer z n v → Ready most layer z n (hosted_by z v)
+      over v some q =
+          let g0 = ground_of z.host (length z.links) in
+          let k = n - count_by free z.links in
+          let means : meant_in z ≡ stored (web_in z) = ap meant_in b.same ∙ b.means in
+          let fit : fits g0 k ≡ true =
+          fits_down g0 k (growth g0) (largest-fits g0 (borne_fair most z.host (length z.links) b.lasts.lawful b.lasts.hosted b.lasts.few b.sound.1)) (omega (arith, some)) in
+          let a : Reserved z.host v z.links z.stack k = reserved_done most layer z.host q.0 v b.lasts.lawful q.1 b.lasts.hosted z.links z.stack b.lasts.few b.lasts.kept b.sound.1 k fit q.2 q.3 in
+          record {
+            over = refl;
+            prepares = q;
+            sound = (b.sound.0, a.borne);
+            enough = omega (arith, a.ready);
+            roomy = omega (arith, a.room, some);
+            means = means ∙ sym a.means;
+            synced = a.synced;
+          }
 
 -- after the shared text: u is the state then
-module _ {most layer : ℕ} {s z : State} {n : ℕ} {v : Store} (a : Ready most layer s z n v) {u : State} (ok : Lasting most u) (sound : Sound u) where
-  pub begun_yes : (x : ℕ) → n ≢ 0 → (stored (web_in (hosted_by z v))).chain x ≡ None → x ≤ MAX_HEAD
-      → stored (web_in u) ≡ with_chain (stored (web_in (hosted_by z v))) x (Some (zeros (stored (web_in (hosted_by z v))) n)) ((web_in (hosted_by z v)).room - n)
+module _ {most layer : ℕ} {s y : State} {n : ℕ} (a : Ready most layer s n y) {u : State} (ok : Lasting most u) (sound : Sound u) where
+  opened : u.opened ≡ s.opened
+  opened = sound.0 ∙ sym a.sound.0 ∙ ap (λ (x : State). x.opened) a.over
+
+  pub begun_yes : (x : ℕ) → n ≢ 0 → (stored (web_in y)).chain x ≡ None → x ≤ MAX_HEAD
+      → stored (web_in u) ≡ with_chain (stored (web_in y)) x (Some (zeros (stored (web_in y)) n)) ((web_in y).room - n)
       → Begins (meant_in s) 3 n (Ok x) (meant_in u)
-  begun_yes x some none small is = begun_done (meant_in s) (stored (web_in (hosted_by z v))) (meant_in u) 3 a.means n x some a.roomy none small
+  begun_yes x some none small is = begun_done (meant_in s) (stored (web_in y)) (meant_in u) 3 a.means n x some a.roomy none small
       (means_open most u.host ok.lawful u.links u.stack ok.few ok.kept u.opened sound.0 sound.1 ∙ is)
 
-  pub begun_takes : (x : ℕ) → x ≡ next_mini (web_in (hosted_by z v)) → web_in u ≡ lengthened next_mini put_mini (n - 1) (took_mini (web_in (hosted_by z v))) x → BeginsChain most layer s n (Ok x) u
-  begun_takes x e w = subst (λ y. BeginsChain most layer y n (Ok x) u) a.same (v, a.prepares, e, sound.0 ∙ sym a.sound.0, w)
+  pub begun_takes : (x : ℕ) → x ≡ next_mini (web_in y) → web_in u ≡ lengthened next_mini put_mini (n - 1) (took_mini (web_in y)) x → BeginsChain most layer s n (Ok x) u
+  begun_takes x e w = (y.host, a.prepares, e ∙ ap (λ q. next_mini (web_in q)) a.over, opened, w ∙ ap (λ q. lengthened next_mini put_mini (n - 1) (took_mini (web_in q)) x) a.over)
 
-  module _ {h r : ℕ} {f : Found} (c : Seen most s z h r f) where
-    pub extended_yes : stored (web_in u) ≡ with_chain (stored (web_in (hosted_by z v))) h (Some (bytes_of (stored (web_in (hosted_by z v))) h ++ zeros (stored (web_in (hosted_by z v))) n)) ((web_in (hosted_by z v)).room - n)
+  module _ {z : State} {h r : ℕ} {f : Found} (c : Seen most s z h r f) where
+    pub extended_yes : stored (web_in u) ≡ with_chain (stored (web_in y)) h (Some (bytes_of (stored (web_in y)) h ++ zeros (stored (web_in y)) n)) ((web_in y).room - n)
         → ◌≡◌ {A = Result (Unit {0}) Refused} (Ok tt) (answer (due_extend (meant_in s) 3 h n) tt) × (meant_in u ≡ extended (meant_in s) 3 h n)
-    extended_yes is = extended_done (meant_in s) (stored (web_in (hosted_by z v))) (meant_in u) 3 a.means h _ (ap (λ (y : Store). y.chain h) (sym a.means) ∙ chain_here c) n a.roomy
+    extended_yes is = extended_done (meant_in s) (stored (web_in y)) (meant_in u) 3 a.means h _ (ap (λ (x : Store). x.chain h) (sym a.means) ∙ chain_here c) n a.roomy
         (means_open most u.host ok.lawful u.links u.stack ok.few ok.kept u.opened sound.0 sound.1 ∙ is)
 
-    pub extended_takes : f.chain.units ≤ r → web_in u ≡ lengthened next_mini put_mini n (web_in (hosted_by z v)) f.chain.place → ExtendsChain most layer s h n (Ok tt) u
-    extended_takes l w = subst (λ y. ExtendsChain most layer y h n (Ok tt) u) a.same
-        (v, a.prepares, sound.0 ∙ sym a.sound.0, w ∙ ap (lengthened next_mini put_mini n (web_in (hosted_by z v))) (last_of c l))
+    pub extended_takes : f.chain.units ≤ r → web_in u ≡ lengthened next_mini put_mini n (web_in y) f.chain.place → ExtendsChain most layer s h n (Ok tt) u
+    extended_takes l w =
+        (y.host, a.prepares, opened, w ∙ (λ i. lengthened next_mini put_mini n (web_in (a.over i)) ((last_of c l ∙ ap (λ (x : State). last_or 0 (path_of x.links h)) c.base.same) i)))
 
 -- the room, by what was told of the figures
-pub room_told : {most : ℕ} {s z : State} (ok : Lasting most z) (same : z ≡ s) (o : Option Ground) (n : ℕ) {P : Ground → Type 0} → o ≡ figures_in s
-    → MatchOption o (n ≡ 0) P → ((g : Ground) → P g → n ≡ length z.stack + growth g) → n ≡ (meant_in s).room
-room_told {most} {s} ok same None n e k q = k ∙ ap (λ x. (meant_by x s.host s.links s.stack).room) e
-room_told ok same (Some g) n e k q = q g k ∙ sym (room_of (based ok same g (sym e)))
+pub room_told : {most : ℕ} {s z : State} (ok : Lasting most z) (left : ok.shown.0 ≡ s) (o : Option Ground) (n : ℕ) {P : Ground → Type 0} → o ≡ figures_in s
+    → MatchOption o (n ≡ 0) P → ((g : Ground) → P g → n ≡ length ok.shown.0.stack + growth g) → n ≡ (meant_in s).room
+room_told {most} {s} ok left None n e k q = k ∙ ap (λ x. (meant_by x s.host s.links s.stack).room) e
+room_told ok left (Some g) n e k q = q g k ∙ ap (λ (y : State). length y.stack + growth g) left ∙ sym (room_of (based ok left g (sym e)))

@@ -7,25 +7,27 @@ use Rattle.links.specs.Links.{free, at}
 use Rattle.links.specs.Walk.{reach}
 use Rattle.links.specs.declared.stacked.Stacked.{Stacked}
 use Rattle.links.proofs.Stacks.{Kept, kept_told, kept_of, few_of}
-use Rattle.store.specs.Meaning.{Store, Hosted, Lawful}
+use Rattle.store.specs.Meaning.{Hosted, Lawful}
 use Rattle.chain.specs.Webs.{Woven, stored, path_of}
 use Rattle.chain.proofs.Weaves.{Chained}
 use Rattle.rooms.specs.declared.Ground.{Ground}
 use Rattle.mini.specs.Mini.{ground_of}
 use Rattle.mini.proofs.Told.{Standing, standing, Along, along, along_few}
-use Rattle.minialloc.specs.States.{State, links_in, stack_in, state_of, figures_in, meant_in, web_in, Sound, SyncedIn}
+use Rattle.minialloc.specs.States.{State, Shown, links_in, stack_in, state_in, figures_in, meant_in, web_in, Sound, SyncedIn}
 use Rattle.minialloc.specs.Looks.{Looks}
 use Rattle.minialloc.specs.declared.Found.{Found}
 use Rattle.minialloc.specs.declared.MiniStore.{MiniStore}
+use Rattle.store.specs.declared.stores.ChainStore.{Ghosts}
 
 -- its host is lawful and a host, and its stack has the FREE places of its table
 pub record Lasting (most : ℕ) (s : State) : Type 0 where
+  pub shown : Shown s
   pub lawful : Lawful most s.host
   pub hosted : Hosted s.host
   pub few : length s.links ≤ 4096
   pub kept : Kept s.links s.stack
 
-few_in : (t : Option Stacked) → length (links_in t) ≤ 4096
+pub few_in : (t : Option Stacked) → length (links_in t) ≤ 4096
 few_in None = omega arith
 few_in (Some t) = few_of t.links
 
@@ -33,12 +35,13 @@ pub few_stack : (t : Option Stacked) → length (stack_in t) ≤ 4096
 few_stack None = omega arith
 few_stack (Some t) = few_of t.stack
 
-kept_in : (t : Option Stacked) → Kept (links_in t) (stack_in t)
+pub kept_in : (t : Option Stacked) → Kept (links_in t) (stack_in t)
 kept_in None = kept_told [] [] refl refl (λ p. sym (ap (λ b. b && free (at [] p)) (le-ltb p 0 (omega arith))))
 kept_in (Some t) = kept_of t
 
-pub lasting : {X : Type 0} {most : ℕ} {meaning : X → Store} → ((x : X) → Lawful most (meaning x)) → ((x : X) → Hosted (meaning x)) → (m : MiniStore X) → Lasting most (state_of meaning m)
-lasting lawful hosted m = record { lawful = lawful m.host; hosted = hosted m.host; few = few_in m.table; kept = kept_in m.table }
+abbrev pub lasting : {X : Type 0} {K : Ghosts X} → ((x : X) → Lawful K.MOST (K.meaning x)) → ((x : X) → Hosted (K.meaning x)) → (m : MiniStore X K)
+    → Lasting K.MOST (state_in (K.meaning m.host) m.table)
+lasting lawful hosted m = record { shown = m.state; lawful = lawful m.host; hosted = hosted m.host; few = few_in m.table; kept = kept_in m.table }
 
 -- the figures were told
 pub record Based (most : ℕ) (s z : State) (g : Ground) : Type 0 where
@@ -48,7 +51,10 @@ pub record Based (most : ℕ) (s z : State) (g : Ground) : Type 0 where
   pub means : meant_in s ≡ stored (web_in z)
   pub ground : g ≡ ground_of z.host (length z.links)
 
-module _ {most : ℕ} {s z : State} (ok : Lasting most z) (same : z ≡ s) where
+module _ {most : ℕ} {s z : State} (ok : Lasting most z) (left : ok.shown.0 ≡ s) where
+  same : z ≡ s
+  same = sym ok.shown.1 ∙ left
+
   pub based : (g : Ground) → figures_in s ≡ Some g → Based most s z g
   based g e =
       let st : Standing z.opened z.host z.links z.stack g = standing most z.host ok.lawful z.links z.stack ok.few ok.kept z.opened g (ap figures_in same ∙ e) in
@@ -69,14 +75,14 @@ pub record Seen (most : ℕ) (s z : State) (h r : ℕ) (f : Found) : Type 0 wher
   pub place : f.chain.place ≡ reach 0 (path_of z.links h) r
   pub few : f.chain.units ≤ 4096
 
-module _ {most : ℕ} {s z : State} (ok : Lasting most z) (same : z ≡ s) (h r : ℕ) (f : Found) where
+module _ {most : ℕ} {s z : State} (ok : Lasting most z) (left : ok.shown.0 ≡ s) (h r : ℕ) (f : Found) where
   pub seen : Looks s h r (Ok f) → Seen most s z h r f
   seen l =
-      let q : Looks z h r (Ok f) = subst (λ x. Looks x h r (Ok f)) (sym same) l in
+      let q : Looks z h r (Ok f) = subst (λ x. Looks x h r (Ok f)) (sym (same ok left)) l in
       let a : Along most z.host ok.lawful z.links z.stack ok.few ok.kept z.opened f.ground h r f.chain.units f.chain.place =
       along most z.host ok.lawful z.links z.stack ok.few ok.kept z.opened f.ground h r f.chain.units f.chain.place q.0 q.1 in
       record {
-        base = based ok same f.ground l.0;
+        base = based ok left f.ground l.0;
         woven = a.stands.woven;
         chained = a.chained;
         units = sym a.chained.path;

@@ -27,21 +27,21 @@ record Passed {A B : Type 0} (r : Result A Faulted) (below : A → Result B Faul
 
 passed : {A B : Type 0} (r : Result A Faulted) (below : A → Result B Faulted) (y : B) → before r below ≡ Ok y → Passed r below y
 passed (Ok x) below y e = record { it = x; first = refl; rest = e }
-passed (Err f) below y e = absurd (cc)
+passed (Err f) below y e = cc
 
 row_passed : {A : Type 0} (test : Bool) (n : ℕ) (below : Result A Faulted) (y : A) → row test n below ≡ Ok y → below ≡ Ok y
-row_passed true n below y e = absurd (cc)
+row_passed true n below y e = cc
 row_passed false n below y e = e
 
 -- the words are the host's
 words_told : (r : Result ℕ Refused) (count : ℕ) (v w : Words)
     → asking r 9 (λ n. row (not (n == count)) 9 (Ok v)) ≡ Ok w → v ≡ w
 words_told (Ok n) count v w e = let q : ◌≡◌ {A = Result Words Faulted} (Ok v) (Ok w) = row_passed (not (n == count)) 9 (Ok v) w e in cc
-words_told (Err f) count v w e = absurd (cc)
+words_told (Err f) count v w e = cc
 
 checked_told : (v : Result Unit LinkFault) (L T : List ℕ) → checked_by v L ≡ Ok T → L ≡ T
 checked_told (Ok u) L T e = cc
-checked_told (Err f) L T e = absurd (cc)
+checked_told (Err f) L T e = cc
 
 -- the first links of so many bytes are the links of those
 links_there : (ys : List ℕ) (k r p : ℕ) → p < length (take r (take k (all_links ys))) → link_in ys p ≡ at (take r (take k (all_links ys))) p

@@ -1,20 +1,23 @@
 -- The state of a mini store, and what its calls make of it: of the host's meaning, of the table and of the stack.
 -- Assumes nothing.
-use Rattle.std.specs.Prelude.{◌≡◌, ℕ, ◌-◌, Bool, true, if◌then◌else◌, List, [], length, is_some, Some, None, Ok, Err, count_by, Option, Result, slice_index}
+use mathlib.Core.Path.{sym, ◌∙◌, contract'}
+use Rattle.std.specs.Prelude.{◌≡◌, ℕ, ◌+◌, ◌-◌, ◌<◌, ◌≤◌, Bool, true, if◌then◌else◌, List, [], length, is_some, Some, None, Ok, Err, count_by, Option, Result, slice_index}
 use Rattle.links.specs.Links.{free}
 use Rattle.links.specs.Stack.{place_after}
 use Rattle.links.specs.Stacked.{table_of, stack_of}
 use Rattle.links.specs.Walk.{last_or}
 use Rattle.links.specs.declared.stacked.Stacked.{Stacked}
+use Rattle.store.specs.declared.faults.Refusal.TheVariants.{NoRoom}
+use Rattle.store.specs.declared.faults.StoreFault.{StoreFault}
 use Rattle.store.specs.Refusals.{Refused}
 use Rattle.store.specs.Meaning.{Store}
 use Rattle.chain.specs.Units.{Wrote}
 use Rattle.chain.specs.Webs.{Web, path_of, viewed, lengthened, released, shortened}
 use Rattle.rooms.specs.declared.Ground.{Ground}
+use Rattle.rooms.specs.Rooms.{growth}
 use Rattle.mini.specs.Adding.{Reserves}
 use Rattle.mini.specs.Mini.{ground_of, ground_if, Borne, web_of, mini, Synced}
 use Rattle.mini.specs.Steps.{took_mini, put_mini, ended_mini, gave_mini, Trims}
-use Rattle.minialloc.specs.declared.MiniStore.{MiniStore}
 
 -- whether it is open, what its host means, its table and its stack; shut it has neither link nor place
 pub record State : Type 0 where
@@ -31,8 +34,15 @@ abbrev pub stack_in : Option Stacked → List ℕ
 stack_in None = []
 stack_in (Some t) = stack_of t
 
-abbrev pub state_of : {X : Type 0} → (X → Store) → MiniStore X → State
-state_of meaning m = record { opened = is_some m.table; host = meaning m.host; links = links_in m.table; stack = stack_in m.table }
+abbrev pub state_in : Store → Option Stacked → State
+state_in s t = record { opened = is_some t; host = s; links = links_in t; stack = stack_in t }
+
+-- the state s by a name: what a contract reads
+abbrev pub Shown : State → Type 0
+Shown s = (x : State) × (x ≡ s)
+
+pub Shown-prop : (s : State) → IsProp (Shown s)
+Shown-prop s p q = sym (contract' p.1) ∙ contract' q.1
 
 -- the figures that room is reckoned from; nothing where it is shut, or the host does not bear the table out
 abbrev pub figures_in : State → Option Ground
@@ -41,9 +51,6 @@ figures_in s = if s.opened then ground_if s.host (length s.links) else None
 -- what it means as a chain store, and its mini sectors as units that the table links
 abbrev pub meant_in : State → Store
 meant_in s = mini s.opened s.host s.links s.stack
-
-abbrev pub mini_of : {X : Type 0} → (X → Store) → MiniStore X → Store
-mini_of meaning m = meant_in (state_of meaning m)
 
 abbrev pub web_in : State → Web
 web_in s = web_of s.host s.links s.stack
@@ -69,6 +76,17 @@ Writes s h at ys (Err f) after = after ≡ s
 -- the host that has the sectors for n places more than are FREE
 abbrev pub Prepares : ℕ → ℕ → State → ℕ → Store → Type 0
 Prepares most layer s n mid = Reserves most s.host layer (ground_of s.host (length s.links)) (n - count_by free s.links) mid
+
+-- the same over another host
+abbrev pub hosted_by : State → Store → State
+hosted_by s mid = record { opened = s.opened; host = mid; links = s.links; stack = s.stack }
+
+-- by the figures g there is room for n places more, and the host has the sectors for them; or there is not, and nothing
+-- changed: 5 at the place h
+abbrev pub Prepared : ℕ → ℕ → State → Ground → ℕ → ℕ → Result Unit StoreFault → State → Type 0
+Prepared most layer s g n h (Ok _) after =
+    (n ≤ length s.stack + growth g) × Reserves most s.host layer g (n - length s.stack) after.host × (after ≡ hosted_by s after.host)
+Prepared most layer s g n h (Err f) after = (length s.stack + growth g < n) × (f ≡ record { refusal = NoRoom; layer = 3; place = h }) × (after ≡ s)
 
 -- a new chain: the sectors are added, one mini sector is taken, and the others go behind it one after the other
 abbrev pub BeginsChain : ℕ → ℕ → State → ℕ → Result ℕ Refused → State → Type 0

@@ -1,7 +1,7 @@
 //! The mini store as a chain store: its own calls, as the interface has them.
 
-ghost use Rattle.minialloc.specs.Laws.{lawful_in};
-ghost use Rattle.minialloc.specs.States.{state_of, mini_of, SyncedIn};
+ghost use Rattle.minialloc.specs.Laws.{lawful_shown};
+ghost use Rattle.minialloc.specs.States.{meant_in, SyncedIn};
 
 use crate::MiniStore;
 use links::consts::MOST_LINKS;
@@ -9,20 +9,21 @@ use mini::MINI_SECTOR_LEN;
 use store::faults::StoreFault;
 use store::stores::{ChainStore, Host};
 
+// Kept: calls of its own that these pass on, as their names are public and they promise more than the interface.
 impl<H: Host> ChainStore for MiniStore<H> {
     const LAYER: u8 = mini::LAYER;
 
     const MOST: u32 = MOST_LINKS;
 
-    ghost meaning = { mini_of H.ChainStore.meaning };
+    ghost meaning = { λ m. meant_in m.state.0 };
 
-    ghost layer = { 3 };
+    ghost LAYER = { 3 };
 
-    ghost most = { 4096 };
+    ghost MOST = { 4096 };
 
-    ghost lawful = { λ m. lawful_in m.table (H.ChainStore.meaning m.host) H.ChainStore.most (H.ChainStore.lawful m.host) };
+    ghost lawful = { λ m. lawful_shown m.table (H.ChainStore.meaning m.host) m.state H.ChainStore.MOST (H.ChainStore.lawful m.host) };
 
-    ghost sound = { λ m. SyncedIn (state_of H.ChainStore.meaning m) };
+    ghost sound = { λ m. SyncedIn m.state.0 };
 
     fn unit(&mut self) -> u32 {
         MINI_SECTOR_LEN

@@ -4,7 +4,6 @@
 ghost use Rattle.links.specs.Stack.{free_places};
 ghost use Rattle.links.specs.Stacked.{stack_of};
 ghost use Rattle.mini.specs.Mini.{Synced};
-ghost use Rattle.minialloc.specs.States.{state_of};
 ghost use Rattle.minifat.specs.Table.{strictly, table_in, table_of};
 ghost use Rattle.minifat.specs.Told.{told_of};
 ghost use Rattle.std.specs.Prelude.{◌≡◌, true, false, [], IfOk};
@@ -18,30 +17,30 @@ use store::stores::{ChainStore, Host};
 impl<H: Host> MiniStore<H> {
     // The table as the host has it, or the refusal. Nothing changes.
     pub fn read_table(&mut self, validation: Validation) -> Result<Stacked, Fault>
-        ensures told { told_of table_in result ≡ table_of (H.ChainStore.meaning self.old.host) H.ChainStore.layer (strictly validation) }
+        ensures told { told_of table_in result ≡ table_of self.old.state.0.host H.ChainStore.LAYER (strictly validation) }
         ensures stack { IfOk result (λ s. stack_of s ≡ free_places (table_in s)) }
-        ensures sound { IfOk result (λ s. Synced (H.ChainStore.meaning self.old.host) (table_in s)) }
-        ensures left { state_of H.ChainStore.meaning self.new ≡ state_of H.ChainStore.meaning self.old }
+        ensures sound { IfOk result (λ s. Synced self.old.state.0.host (table_in s)) }
+        ensures left { self.new.state.0 ≡ self.old.state.0 }
     {
         read_table(&mut self.host, validation)
     }
 
     // Opens with a table. Where the host does not bear it out, the mini store means what a shut one means.
     pub fn install(&mut self, table: Stacked)
-        ensures { state_of H.ChainStore.meaning self.new ≡ record { opened = true; host = H.ChainStore.meaning self.old.host; links = table_in table; stack = stack_of table } }
+        ensures { self.new.state.0 ≡ record { opened = true; host = self.old.state.0.host; links = table_in table; stack = stack_of table } }
     {
         self.table = Some(table);
     }
 
     // Shuts: there is neither chain nor room until a table is installed.
     pub fn shut(&mut self)
-        ensures { state_of H.ChainStore.meaning self.new ≡ record { opened = false; host = H.ChainStore.meaning self.old.host; links = []; stack = [] } }
+        ensures { self.new.state.0 ≡ record { opened = false; host = self.old.state.0.host; links = []; stack = [] } }
     {
         self.table = None;
     }
 
     pub fn is_open(&self) -> bool
-        ensures { result ≡ (state_of H.ChainStore.meaning self.now).opened }
+        ensures { result ≡ self.now.state.0.opened }
     {
         self.table.is_some()
     }

@@ -16,6 +16,7 @@ use store::stores::ChainStore;
 pub const BLOCK: u32 = 512;
 
 // The first 4,096 links, and how many of all there are up to the last that is not FREE; 4,097 stands for all above.
+// Kept: one number, as an Option would be made and taken apart at each link, for a test that stands once.
 #[derive(Drop)]
 pub struct Gathered {
     pub links: Links,
@@ -56,7 +57,7 @@ impl Gathered {
 
 // The links of the first so many blocks of a chain, or the store's refusal of a block.
 pub fn gather<S: ChainStore>(store: &mut S, head: u32, blocks: u32) -> Result<Gathered, StoreFault>
-    ensures told { gathering_in result ≡ answer (due_blocks (S.ChainStore.meaning store.old) S.ChainStore.layer head blocks) (gathered (all_links (take (blocks * 512) (bytes_of (S.ChainStore.meaning store.old) head)))) }
+    ensures told { gathering_in result ≡ answer (due_blocks (S.ChainStore.meaning store.old) S.ChainStore.LAYER head blocks) (gathered (all_links (take (blocks * 512) (bytes_of (S.ChainStore.meaning store.old) head)))) }
     ensures left { S.ChainStore.meaning store.new ≡ S.ChainStore.meaning store.old }
 {
     let mut all = Gathered::new();

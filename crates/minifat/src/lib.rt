@@ -73,7 +73,7 @@ fn sector_blocks<H: Host>(host: &mut H) -> u32
 
 // The header words, where the MiniFAT has the sectors that they say.
 fn fat_words<H: Host>(host: &mut H) -> Result<Words, Fault>
-    ensures told { told_of (λ w. w) result ≡ words_of_fat (H.ChainStore.meaning host.old) H.ChainStore.layer }
+    ensures told { told_of (λ w. w) result ≡ words_of_fat (H.ChainStore.meaning host.old) H.ChainStore.LAYER }
     ensures left { H.ChainStore.meaning host.new ≡ H.ChainStore.meaning host.old }
 {
     let words = host.words();
@@ -87,7 +87,7 @@ fn fat_words<H: Host>(host: &mut H) -> Result<Words, Fault>
 
 // The links of the MiniFAT, as they are gathered.
 fn fat_gathered<H: Host>(host: &mut H) -> Result<Gathered, Fault>
-    ensures told { told_of gathering_of result ≡ gathered_fat (H.ChainStore.meaning host.old) H.ChainStore.layer }
+    ensures told { told_of gathering_of result ≡ gathered_fat (H.ChainStore.meaning host.old) H.ChainStore.LAYER }
     ensures left { H.ChainStore.meaning host.new ≡ H.ChainStore.meaning host.old }
 {
     let words = fat_words(host)?;
@@ -98,7 +98,7 @@ fn fat_gathered<H: Host>(host: &mut H) -> Result<Gathered, Fault>
 
 // The links of the MiniFAT, without the trailing FREE ones.
 fn fat_links<H: Host>(host: &mut H) -> Result<Links, Fault>
-    ensures told { told_of links_of result ≡ fat_of (H.ChainStore.meaning host.old) H.ChainStore.layer }
+    ensures told { told_of links_of result ≡ fat_of (H.ChainStore.meaning host.old) H.ChainStore.LAYER }
     ensures left { H.ChainStore.meaning host.new ≡ H.ChainStore.meaning host.old }
 {
     let mut all = fat_gathered(host)?;
@@ -111,7 +111,7 @@ fn fat_links<H: Host>(host: &mut H) -> Result<Links, Fault>
 
 // The mini sectors that the root length has.
 fn mini_sectors<H: Host>(host: &mut H) -> Result<u32, Fault>
-    ensures told { told_of (λ n. n) result ≡ minis_of (H.ChainStore.meaning host.old) H.ChainStore.layer }
+    ensures told { told_of (λ n. n) result ≡ minis_of (H.ChainStore.meaning host.old) H.ChainStore.LAYER }
     ensures left { H.ChainStore.meaning host.new ≡ H.ChainStore.meaning host.old }
 {
     let root = root(host);
@@ -128,7 +128,7 @@ fn mini_sectors<H: Host>(host: &mut H) -> Result<u32, Fault>
 
 // The table that a host holds, or why it holds none that a mini store could use.
 pub fn read_table<H: Host>(host: &mut H, validation: Validation) -> Result<Stacked, Fault>
-    ensures told { told_of table_in result ≡ table_of (H.ChainStore.meaning host.old) H.ChainStore.layer (strictly validation) }
+    ensures told { told_of table_in result ≡ table_of (H.ChainStore.meaning host.old) H.ChainStore.LAYER (strictly validation) }
     ensures stack { IfOk result (λ s. links_of s.stack ≡ free_places (table_in s)) }
     ensures left { H.ChainStore.meaning host.new ≡ H.ChainStore.meaning host.old }
 {

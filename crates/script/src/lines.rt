@@ -35,7 +35,8 @@ fn close<'a>(all: &mut Vec<&'a str>, word: &'a str) -> Result<(), AllocError>
 }
 
 // The words of a line up to a comment.
-// Kept: `split_ascii_whitespace` leaves out the byte 11, and a `split` at these six tells of a piece no more than its length.
+// Kept: `split_ascii_whitespace` leaves out the byte 11, a `split` of text at these six tells of a piece no more than its
+// length, and the pieces of a `split` of bytes would have to be shown to be text again.
 pub fn words_of(heap: Global, line: &str) -> Result<Vec<&str>, AllocError>
     ensures { IfOk result (λ v. map (λ x. x.now) v.items ≡ words_of line.now) }
 {

@@ -81,7 +81,7 @@ impl fmt::Display for StoreFault {
 }
 
 // The fault of a layer above: with it, whole, the store's fault that caused it, where one did.
-// Kept: its own fields, as with a StoreFault inside each use would take two steps (`fault.told.place`), and it is no store's.
+// Kept: its own fields, as definitions name all four of them side by side, and what it tells is no store's fault.
 #[derive(Clone, Copy, PartialEq, Eq, Debug)]
 pub struct Fault {
     pub refusal: Refusal,

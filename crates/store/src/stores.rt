@@ -10,21 +10,21 @@ use crate::faults::StoreFault;
 
 // A store of chains of units.
 pub trait ChainStore {
-    // The store's layer, and the most units that it can have: what its faults and its bounds name.
+    // The store's layer, and the most units that it can have: what its faults and its bounds name. Statements name them as
+    // ghosts, and the check proves that those are the same numbers.
     const LAYER: u8;
 
     const MOST: u32;
 
+    ghost LAYER: { ℕ };
+
+    ghost MOST: { ℕ };
+
     // What the store means.
     ghost meaning: { Self → Store };
 
-    // The two numbers again, for statements.
-    ghost layer: { ℕ };
-
-    ghost most: { ℕ };
-
     // What always holds of it: code that is generic over the trait can use this.
-    ghost lawful: { (s : Self) → Lawful most (meaning s) };
+    ghost lawful: { (s : Self) → Lawful MOST (meaning s) };
 
     // What a store keeps if it has it, and no call needs.
     // Kept: a clause of each call, and no invariant of a type, as there are stores that do not have it.
@@ -44,44 +44,44 @@ pub trait ChainStore {
 
     // How many units the chain of a head has.
     fn units(&mut self, head: u32) -> Result<u32, StoreFault>
-        ensures told { told result ≡ answer (due_head (meaning self.old) layer head) (units_of (meaning self.old) head) }
+        ensures told { told result ≡ answer (due_head (meaning self.old) LAYER head) (units_of (meaning self.old) head) }
         ensures left { meaning self.new ≡ meaning self.old }
         ensures sound { sound self.old → sound self.new };
 
     // Fills the buffer with the bytes of a chain from an offset on.
     fn read(&mut self, head: u32, at: u64, out: &mut [u8]) -> Result<(), StoreFault>
-        ensures told { told result ≡ answer (due_copy (meaning self.old) layer head (at + length out.old)) tt }
-        ensures out { out.new ≡ read_into (meaning self.old) layer head at out.old }
+        ensures told { told result ≡ answer (due_copy (meaning self.old) LAYER head (at + length out.old)) tt }
+        ensures out { out.new ≡ read_into (meaning self.old) LAYER head at out.old }
         ensures left { meaning self.new ≡ meaning self.old }
         ensures sound { sound self.old → sound self.new };
 
     // Lays bytes over those of a chain from an offset on.
     fn write(&mut self, head: u32, at: u64, src: &[u8]) -> Result<(), StoreFault>
-        ensures told { told result ≡ answer (due_copy (meaning self.old) layer head (at + length src.now)) tt }
-        ensures left { meaning self.new ≡ wrote (meaning self.old) layer head at src.now }
+        ensures told { told result ≡ answer (due_copy (meaning self.old) LAYER head (at + length src.now)) tt }
+        ensures left { meaning self.new ≡ wrote (meaning self.old) LAYER head at src.now }
         ensures sound { sound self.old → sound self.new };
 
     // A new chain of so many units of zeros; answers its head.
     fn begin(&mut self, count: u32) -> Result<u32, StoreFault>
-        ensures begins { Begins (meaning self.old) layer count (told result) (meaning self.new) }
+        ensures begins { Begins (meaning self.old) LAYER count (told result) (meaning self.new) }
         ensures sound { sound self.old → sound self.new };
 
     // So many units of zeros more at a chain's end.
     fn extend(&mut self, head: u32, count: u32) -> Result<(), StoreFault>
-        ensures told { told result ≡ answer (due_extend (meaning self.old) layer head count) tt }
-        ensures left { meaning self.new ≡ extended (meaning self.old) layer head count }
+        ensures told { told result ≡ answer (due_extend (meaning self.old) LAYER head count) tt }
+        ensures left { meaning self.new ≡ extended (meaning self.old) LAYER head count }
         ensures sound { sound self.old → sound self.new };
 
     // The chain keeps its first `count` units.
     fn cut(&mut self, head: u32, count: u32) -> Result<(), StoreFault>
-        ensures told { told result ≡ answer (due_cut (meaning self.old) layer head count) tt }
-        ensures left { meaning self.new ≡ cut_to (meaning self.old) layer head count }
+        ensures told { told result ≡ answer (due_cut (meaning self.old) LAYER head count) tt }
+        ensures left { meaning self.new ≡ cut_to (meaning self.old) LAYER head count }
         ensures sound { sound self.old → sound self.new };
 
     // The chain is removed.
     fn free(&mut self, head: u32) -> Result<(), StoreFault>
-        ensures told { told result ≡ answer (due_head (meaning self.old) layer head) tt }
-        ensures left { meaning self.new ≡ freed (meaning self.old) layer head }
+        ensures told { told result ≡ answer (due_head (meaning self.old) LAYER head) tt }
+        ensures left { meaning self.new ≡ freed (meaning self.old) LAYER head }
         ensures sound { sound self.old → sound self.new };
 }
 
@@ -96,15 +96,15 @@ pub trait Host: ChainStore {
 
     // The entry with an id.
     fn entry(&mut self, id: u32) -> Result<Entry, StoreFault>
-        ensures told { told result ≡ entry_of (Self.ChainStore.meaning self.old) Self.ChainStore.layer id }
+        ensures told { told result ≡ entry_of (Self.ChainStore.meaning self.old) Self.ChainStore.LAYER id }
         ensures left { Self.ChainStore.meaning self.new ≡ Self.ChainStore.meaning self.old }
         ensures sound { Self.ChainStore.sound self.old → Self.ChainStore.sound self.new };
 
     // Sets start and length of an entry; its kind stays.
     // Kept: start and length are two numbers, as an Extent would ask of callers that they go together.
     fn set_entry(&mut self, id: u32, start: u32, len: u32) -> Result<(), StoreFault>
-        ensures told { told result ≡ answer (due_entry (Self.ChainStore.meaning self.old) Self.ChainStore.layer id) tt }
-        ensures left { Self.ChainStore.meaning self.new ≡ entered (Self.ChainStore.meaning self.old) Self.ChainStore.layer id start len };
+        ensures told { told result ≡ answer (due_entry (Self.ChainStore.meaning self.old) Self.ChainStore.LAYER id) tt }
+        ensures left { Self.ChainStore.meaning self.new ≡ entered (Self.ChainStore.meaning self.old) Self.ChainStore.LAYER id start len };
 
     // The header words.
     fn words(&mut self) -> Words

@@ -82,7 +82,7 @@ module _ (most : ℕ) (m : Store) (law : Lawful most m) (layer h at n : ℕ) (s 
 
 pub returns-clause-told : goal.returns-clause-told
 returns-clause-told g c =
-    answers g.S.ChainStore.most (g.S.ChainStore.meaning c.args.store.now) (g.S.ChainStore.lawful c.args.store.now)
-    g.S.ChainStore.layer c.args.head c.args.at c.args.count c.as_mut_slice.result.now
+    answers g.S.ChainStore.MOST (g.S.ChainStore.meaning c.args.store.now) (g.S.ChainStore.lawful c.args.store.now)
+    g.S.ChainStore.LAYER c.args.head c.args.at c.args.count c.as_mut_slice.result.now
     (omega (arith, c.in_ok-out.ensures.len, c.min.ensures, c.as_mut_slice.ensures.len)) c.read-read.new.out c.in_ok-out.out.items c.in_ok-out.out.len c.read-read.result c.map.result _
     c.read-read.ensures.told c.read-read.ensures.out (omega (arith, c.as_mut_slice.ensures.len)) c.map.ensures.cases (λ x a p. search (rules, tests))

@@ -6,7 +6,7 @@ use Rattle.mini.proofs.changes.reserve.Goals as goal
 pub returns : goal.returns
 returns g c =
     let means = g.H.ChainStore.meaning in
-    let layer = g.H.ChainStore.layer in (
+    let layer = g.H.ChainStore.LAYER in (
       means c.add_fats.new.host,
       g.H.ChainStore.lawful c.add_fats.new.host,
       subst (λ n. AddsFats (means c.args.host.now) layer n (means c.add_fats.new.host)) (c.low.ensures ∙ ap (λ n. n % 0x100000000) c.need_fats.ensures) c.add_fats.ensures,

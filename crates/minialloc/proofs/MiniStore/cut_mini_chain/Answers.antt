@@ -1,5 +1,5 @@
 -- Assumes nothing.
-use Rattle.std.proofs.Common.{ap, arith}
+use Rattle.std.proofs.Common.{ap, arith, sym, ◌∙◌}
 use Rattle.chain.proofs.Dues.{told_no, left_no}
 use Rattle.minialloc.specs.States.{meant_in}
 use Rattle.minialloc.proofs.Lasting.{lasting, seen, still}
@@ -33,11 +33,13 @@ returns g c =
     let a = seen (lasting g.H.ChainStore.lawful g.met.H.Host.hosted c.look.new.self) c.look.ensures.left c.args.head c.saturating_sub.result c.in_ok-found.found c.in_ok-found.ensures.told in
     let okx = lasting g.H.ChainStore.lawful g.met.H.Host.hosted c.cut.new.s in
     let oky = lasting g.H.ChainStore.lawful g.met.H.Host.hosted c.trim.new.self in
-    let y = cut_yes g.H.ChainStore.layer a okx oky c.cut.ensures.sound c.trim.ensures.trims c.trim.ensures.same c.args.count c.if-count-eq0.false c.if-count-found.false c.cut.ensures.means in
-    record {
+    let trims = rw (c.cut.new.s.state.1, c.trim.new.self.state.1) at c.trim.ensures.trims in
+    let same = rw (c.cut.new.s.state.1, c.trim.new.self.state.1) at c.trim.ensures.same in
+    let y = cut_yes g.H.ChainStore.LAYER a okx oky c.cut.ensures.sound trims same c.args.count c.if-count-eq0.false c.if-count-found.false c.cut.ensures.means in
+    rw c.trim.new.self.state.1 (record {
       told = y.0;
       left = y.1;
-      cuts = cut_cuts g.H.ChainStore.layer a okx oky c.cut.ensures.sound c.trim.ensures.trims c.trim.ensures.same c.args.count
+      cuts = cut_cuts g.H.ChainStore.LAYER a okx oky c.cut.ensures.sound trims same c.args.count
           (cut_place a c.args.count c.saturating_sub.ensures c.if-count-eq0.false c.if-count-found.false) c.cut.ensures.left;
-      sound = λ k. trim_synced g.H.ChainStore.layer a okx oky c.cut.ensures.sound c.trim.ensures.trims c.trim.ensures.same (c.cut.ensures.keeps (still c.look.ensures.left k));
-    }
+      sound = λ k. trim_synced g.H.ChainStore.LAYER a okx oky c.cut.ensures.sound trims same (c.cut.ensures.keeps (still (sym c.look.new.self.state.1 ∙ c.look.ensures.left) k));
+    })

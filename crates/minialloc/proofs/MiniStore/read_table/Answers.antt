@@ -5,4 +5,4 @@ use Rattle.minialloc.proofs.MiniStore.read_table.Goals as goal
 
 pub returns-clause-sound : goal.returns-clause-sound
 returns-clause-sound g c =
-    read_synced (g.H.ChainStore.meaning c.args.self.now.host) g.H.ChainStore.layer (strictly c.args.validation) c.read_table.result c.read_table.ensures.told
+    rw c.args.self.now.state.1 (read_synced (g.H.ChainStore.meaning c.args.self.now.host) g.H.ChainStore.LAYER (strictly c.args.validation) c.read_table.result c.read_table.ensures.told)

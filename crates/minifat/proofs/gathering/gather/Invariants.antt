@@ -5,4 +5,4 @@ use Rattle.minifat.specs.Gathered.{gathering_of}
 use Rattle.minifat.proofs.gathering.gather.Given as goal
 
 abbrev pub invariant-loop-rank : goal.invariant-loop-rank
-invariant-loop-rank g l = Reading (g.S.ChainStore.meaning l.initial.store) (g.S.ChainStore.meaning l.store) g.S.ChainStore.layer l.head l.rank (gathering_of l.all)
+invariant-loop-rank g l = Reading (g.S.ChainStore.meaning l.initial.store) (g.S.ChainStore.meaning l.store) g.S.ChainStore.LAYER l.head l.rank (gathering_of l.all)
