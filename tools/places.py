@@ -141,7 +141,7 @@ HEADS = {
         "pair of parameters in three functions or more": parameters,
     }),
     "6": ("buffers with a length, parallel arrays, searches by hand, arenas", {
-        "array in a field": lambda: lines(r"^\s+(pub )?\w+: \[[^;\]]+; \w+\],$"),
+        "array in a field": lambda: lines(r"^\s+(pub )?\w+: \[[^;\]]+; [\w *]+\],$"),
         "array in a body": lambda: lines(r"\[[^;\]]+; [\w ]+\](?!,$)"),
     }),
     "7": ("switches on a step, tables of functions", {
