@@ -1,4 +1,4 @@
-//! `cfbook drawer`: a script of chain calls, for any chain store: one call a line, and one line of answer for each.
+//! `cfbook drawer` and `cfbook mini`: a script of chain calls, for any chain store: one call a line, and one line of answer for each.
 
 use calls::answers::ask;
 use calls::faults::Fault;

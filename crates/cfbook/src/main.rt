@@ -8,16 +8,20 @@ use std::process::ExitCode;
 use std::{env, fs, io};
 
 mod chains;
+mod minis;
 mod table;
+#[cfg(test)]
+mod tests;
 
 const USAGE: &str =
-    "usage: cfbook TASK [FILE TASK FILE ..], TASK being links or drawer (standard input without FILE)";
+    "usage: cfbook TASK [FILE TASK FILE ..], TASK being links, drawer or mini (standard input without FILE)";
 
 // One task, on its whole input.
 fn task(rt: &HostRuntime, name: &str, text: &str) -> anyhow::Result<()> {
     match name {
         "links" => table::run(rt, text),
         "drawer" => chains::run(rt, &mut Drawer::new(), text),
+        "mini" => chains::run(rt, &mut minis::fresh(), text),
         _ => Err(anyhow!(USAGE)),
     }
 }
