@@ -120,8 +120,14 @@ fn a_drawer_filled_and_emptied(rt: HostRuntime) {
     assert_eq!(rt; store.mini_room(), 0);
     assert_eq!(rt; store.host_room(), 0);
     assert_eq!(rt; store.begin_mini_chain(1), Err(Refusal::NoRoom.at(3, 0)));
-    assert_eq!(rt; store.extend_mini_chain(0, 1), Err(Refusal::NoRoom.at(3, 0)));
-    assert_eq!(rt; store.write_mini_chain(0, 479 * 64 + 60, &[1, 2, 3, 4]), Ok(()));
+    assert_eq!(rt;
+        store.extend_mini_chain(0, 1),
+        Err(Refusal::NoRoom.at(3, 0))
+    );
+    assert_eq!(rt;
+        store.write_mini_chain(0, 479 * 64 + 60, &[1, 2, 3, 4]),
+        Ok(())
+    );
     assert_eq!(rt; store.free_mini_chain(0), Ok(()));
     assert_eq!(rt; store.mini_room(), 480);
     assert_eq!(rt;
