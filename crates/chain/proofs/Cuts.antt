@@ -20,9 +20,12 @@ use Rattle.chain.proofs.Releases.{path_head}
 use Rattle.chain.proofs.Strands.{path_is, chains_some, chains_none, bytes_is, chain_kept, one_chain}
 use Rattle.chain.proofs.Zeros.{chain_same}
 
--- a list parted behind its place k
+-- a list parted at its place k, and behind it
+pub place_parted : (ps : List ℕ) (k : ℕ) → k < length ps → ps ≡ take k ps ++ get_or ps k 0 ∷ drop (suc k) ps
+place_parted ps k l = sym (take-append-drop k ps) ∙ ap (λ t. take k ps ++ t) (drop-cons ps k 0 l)
+
 parted_at : (ps : List ℕ) (k : ℕ) → suc k < length ps → ps ≡ take k ps ++ get_or ps k 0 ∷ get_or ps (suc k) 0 ∷ drop (suc (suc k)) ps
-parted_at ps k l = sym (take-append-drop k ps) ∙ ap (λ t. take k ps ++ t) (drop-cons ps k 0 (omega arith) ∙ ap (λ t. get_or ps k 0 ∷ t) (drop-cons ps (suc k) 0 l))
+parted_at ps k l = place_parted ps k (omega arith) ∙ ap (λ t. take k ps ++ get_or ps k 0 ∷ t) (drop-cons ps (suc k) 0 l)
 
 -- the chain of h is es, e, q, qs, and was cut off behind e
 module _ (w v : Web) (ww : Woven w) (wv : Woven v) (h : ℕ) (es : List ℕ) (e q : ℕ) (qs : List ℕ) (d : Head (at w.links) h (es ++ e ∷ q ∷ qs)) (c : Ended w v e) where

@@ -1,6 +1,6 @@
 -- The units of a chain given back one after the other, from its head on.
 -- Assumes nothing.
-use Rattle.std.proofs.Common.{◌≡◌, ℕ, suc, ◌+◌, ◌-◌, ◌<◌, ◌≤◌, ◌≢◌, List, [], ◌∷◌, length, None, sym, refl, ap, ◌∙◌, inl, inr, ⊎_elim, arith}
+use Rattle.std.proofs.Common.{◌≡◌, ℕ, suc, ◌+◌, ◌-◌, ◌<◌, ◌≤◌, ◌≢◌, List, [], ◌∷◌, length, None, sym, refl, ap, ◌∙◌, inl, inr, arith}
 use Rattle.links.specs.Links.{FREE, POINTERS, at, In, Path, Head}
 use Rattle.links.specs.Chains.{Wrote, Wiping}
 use Rattle.links.proofs.Counts.{inside}
@@ -9,11 +9,11 @@ use Rattle.links.proofs.Paths.{same_head, starts, used}
 use Rattle.links.proofs.Wipes.{wipe, wiping_none, wiping_steps}
 use Rattle.chain.specs.Units.{cell}
 use Rattle.chain.specs.Webs.{Web, Woven, Gave, path_of, stored, without, released}
-use Rattle.chain.proofs.Strands.{cases_chain, chains_none, chain_kept, one_chain}
+use Rattle.chain.proofs.Strands.{path_headed, chains_none, chain_kept, one_chain}
 
 -- the path of a head
 pub path_head : (w : Web) → Woven w → (h : ℕ) → 0 < length (path_of w.links h) → Head (at w.links) h (path_of w.links h)
-path_head w ok h l = ⊎_elim (λ s. rw s.1 s.2) (λ e. absurd (let z : length (path_of w.links h) ≡ 0 = rw e refl in omega arith)) (cases_chain w ok h)
+path_head w ok = path_headed w.links ok.few
 
 -- after i of n units of the chain ps of h, at the place p of v
 pub record Releasing (gave : Web → ℕ → Web) (w : Web) (h : ℕ) (ps : List ℕ) (n i : ℕ) (v : Web) (p : ℕ) : Type 0 where

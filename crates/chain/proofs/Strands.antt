@@ -1,6 +1,6 @@
 -- What a change of links and of one unit means for the chains.
 -- Assumes nothing.
-use Rattle.std.proofs.Common.{◌≡◌, ℕ, ◌*◌, ◌<◌, eqb, ◌≢◌, ◌⊎◌, ◌↔◌, List, [], ◌∷◌, ◌++◌, length, replicate, Some, None, Option, unwrap_or, sym, refl, ap, ◌∙◌, inl, inr, ⊎_elim, append-nil, suc-mul, zero-mul, arith}
+use Rattle.std.proofs.Common.{◌≡◌, ℕ, ◌*◌, ◌<◌, ◌≤◌, eqb, ◌≢◌, ◌⊎◌, ◌↔◌, List, [], ◌∷◌, ◌++◌, length, replicate, Some, None, Option, unwrap_or, sym, refl, ap, ◌∙◌, inl, inr, ⊎_elim, append-nil, suc-mul, zero-mul, arith}
 use mathlib.Core.Path.{fun_ext}
 use Rattle.std.specs.List.{flat_map}
 use Rattle.std.specs.Map.{update}
@@ -22,6 +22,14 @@ use Rattle.chain.proofs.Joined.{joined_same}
 pub some_in : (p : ℕ) (ps : List ℕ) → In p ps → 0 < length ps
 some_in p [] i = absurd i
 some_in p (x ∷ ps) i = omega arith
+
+-- what has places is a head
+pub path_headed : (L : List ℕ) → length L ≤ 4096 → (h : ℕ) → 0 < length (path_of L h) → Head (at L) h (path_of L h)
+path_headed L few h = go (chain_of L h) (chain_head L few h)
+  where
+    go : (o : Option (List ℕ)) → ((ps : List ℕ) → (o ≡ Some ps) ↔ Head (at L) h ps) → 0 < length (unwrap_or o []) → Head (at L) h (unwrap_or o [])
+    go None k l = absurd (omega arith)
+    go (Some ps) k l = (k ps).0 refl
 
 -- a place is a head, with the places of its chain, or none
 module _ (w : Web) (ok : Woven w) (h : ℕ) where
@@ -81,16 +89,17 @@ module _ (w : Web) (ok : Woven w) (f : ℕ) (free : at w.links f ≡ FREE) where
   pub free-none : (stored w).chain f ≡ None
   free-none = chains_none w ok f (λ ps d. free_off f ps d (starts _ f ps d))
 
+-- a store by its parts
+pub same_store : (m n : Store) → m.unit ≡ n.unit → m.chain ≡ n.chain → m.room ≡ n.room → m.notes ≡ n.notes → m ≡ n
+same_store m n a b c d = λ i. record { unit = a i; chain = b i; room = c i; notes = d i }
+
 -- a store that differs in one chain
 pub one_chain : (w v : Web) (h : ℕ) (o : Option (List ℕ)) (n : ℕ) → v.unit ≡ w.unit → v.notes ≡ w.notes → v.room ≡ n
     → (stored v).chain h ≡ o → ((k : ℕ) → k ≢ h → (stored v).chain k ≡ (stored w).chain k) → stored v ≡ with_chain (stored w) h o n
-one_chain w v h o n eu en er here rest = same (stored v) (with_chain (stored w) h o n) eu (fun_ext each) er en
+one_chain w v h o n eu en er here rest = same_store (stored v) (with_chain (stored w) h o n) eu (fun_ext each) er en
   where
     each : (k : ℕ) → (stored v).chain k ≡ update eqb (stored w).chain h o k
     each k = ⊎_elim (λ (e : k ≡ h). rw e (here ∙ sym (update_here (stored w).chain h o))) (λ n. rest k n ∙ sym (update_apart (stored w).chain h o k n)) (cases_eq k h)
-
-    same : (m n : Store) → m.unit ≡ n.unit → m.chain ≡ n.chain → m.room ≡ n.room → m.notes ≡ n.notes → m ≡ n
-    same m n a b c d = λ i. record { unit = a i; chain = b i; room = c i; notes = d i }
 
 -- the unit f went behind the chain of h
 module _ (w v : Web) (ww : Woven w) (wv : Woven v) (h last f : ℕ) (es : List ℕ) (e : EndsWith w h last es) (b : Behind w v last f) where

@@ -26,7 +26,7 @@ pub on_chain : (L : List ℕ) (p : ℕ) → length L ≤ 4096 → ((p < length L
 on_chain L p few = (up, down)
   where
     up : (p < length L) × (stop (length L) L p ≡ END) → OnChain (at L) p
-    up h = go (trace (length L) L p) (trace-path L few (length L) p h.1)
+    up h = go (trace (length L) L p) (trace-path L (omega (arith, few)) (length L) p h.1)
       where
         go : (ps : List ℕ) → Path (at L) p ps → OnChain (at L) p
         go [] k = absurd (omega arith)
@@ -36,7 +36,7 @@ on_chain L p few = (up, down)
     down h =
         let r = onward (at L) h.0 p h.1 h.2.path h.3 in
         let short = path_short L h.0 h.1 h.2.path in
-        (inside L p (used (at L) h.0 p h.1 h.2.path h.3).0, (path-trace L few (length L) p r.0 r.1 (omega (arith, r.2))).1)
+        (inside L p (used (at L) h.0 p h.1 h.2.path h.3).0, (path-trace L (omega (arith, few)) (length L) p r.0 r.1 (omega (arith, r.2))).1)
 
 -- the same, of a walk as long as the table
 module _ (L : List ℕ) (few : length L ≤ 4096) (p n s : ℕ) (w : Whole L p n s) where

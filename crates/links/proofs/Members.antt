@@ -1,10 +1,11 @@
 -- What stands in a list that is put together of others.
 -- Assumes nothing.
-use Rattle.std.proofs.Common.{◌≡◌, ℕ, ◌+◌, ◌⊎◌, List, [], ◌∷◌, ◌++◌, length, sum_by, sym, refl, ap, ◌∙◌, inl, inr, ⊎_elim, length-append}
+use Rattle.std.proofs.Common.{◌≡◌, ℕ, ◌+◌, ◌<◌, ◌⊎◌, List, [], ◌∷◌, ◌++◌, length, sum_by, sym, refl, ap, ◌∙◌, inl, inr, ⊎_elim, length-append, arith}
 use Rattle.std.specs.List.{flat_map}
 use Rattle.std.proofs.lemmas.List.Sums.{sum_by-cons}
 use Rattle.std.proofs.lemmas.Bool.{cases_eq}
 use Rattle.links.specs.Links.{In, Apart}
+use Rattle.links.specs.Walk.{last_or}
 
 pub cases_in : (x : ℕ) (ps : List ℕ) → In x ps ⊎ (In x ps → ⊥)
 cases_in x [] = inr (λ i. i)
@@ -26,6 +27,12 @@ in_right x (p ∷ ps) qs i = inr (in_right x ps qs i)
 
 pub in_mid : (e : ℕ) (es fs : List ℕ) → In e (es ++ e ∷ fs)
 in_mid e es fs = in_right e es (e ∷ fs) (inl refl)
+
+-- the last
+pub last_in : (d : ℕ) (ps : List ℕ) → 0 < length ps → In (last_or d ps) ps
+last_in d [] l = absurd (omega arith)
+last_in d (x ∷ []) l = inl refl
+last_in d (x ∷ y ∷ ps) l = inr (last_in x (y ∷ ps) (omega arith))
 
 pub in_append : (x : ℕ) (ps qs : List ℕ) → In x (ps ++ qs) → In x ps ⊎ In x qs
 in_append x [] qs i = inr i

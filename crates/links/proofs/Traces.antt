@@ -12,7 +12,8 @@ use Rattle.links.proofs.Counts.{inside, path_short}
 use Rattle.links.proofs.Lookups.{some_link}
 use Rattle.links.proofs.Paths.{used}
 
-module _ (L : List ℕ) (few : length L ≤ 4096) where
+-- a table that has no place from END on
+module _ (L : List ℕ) (few : length L ≤ POINTERS) where
   pub trace-path : (m v : ℕ) → stop m L v ≡ END → Path (at L) v (trace m L v)
   trace-path zero v h = h
   trace-path (suc m) v h = go (trace-path m (at L v)) (ltb v (length L)) refl h
@@ -46,11 +47,11 @@ module _ (L : List ℕ) (few : length L ≤ 4096) (p : ℕ) where
       let r = and_parts _ (not (holds p L)) h in
       let s = and_parts (ltb p (length L)) _ r.0 in
       let l : p < POINTERS = omega (arith, ltb-true p (length L) s.0) in
-      record { place = l; first = none-holds L p l (not-true (holds p L) r.1); path = trace-path L few (length L) p (eqb-true _ END s.1) }
+      record { place = l; first = none-holds L p l (not-true (holds p L) r.1); path = trace-path L (omega (arith, few)) (length L) p (eqb-true _ END s.1) }
 
   head_headed : (ps : List ℕ) → Head (at L) p ps → (headed L p ≡ true) × (trace (length L) L p ≡ ps)
   head_headed ps h =
-      let r = path-trace L few (length L) p ps h.path (path_short L p ps h.path) in
+      let r = path-trace L (omega (arith, few)) (length L) p ps h.path (path_short L p ps h.path) in
       (and_from _ _ (and_from _ _ (lt-ltb p (length L) (below ps h)) (eq-eqb _ END r.1)) (not_from_false _ (holds-none L p h.first)), r.0)
     where
       below : (ps : List ℕ) → Head (at L) p ps → p < length L

@@ -1,9 +1,9 @@
 -- The trailing FREE links are trimmed, and their places go from the stack.
 -- Assumes nothing.
-use Rattle.std.proofs.Common.{◌≡◌, ℕ, ◌-◌, ◌<◌, ◌≤◌, ltb, ◌≢◌, List, length, take, filter, sym, ◌∙◌, arith}
-use Rattle.std.proofs.lemmas.List.{length-take, get_or-take}
-use Rattle.std.proofs.lemmas.List.Sums.{suffix_len_is}
-use Rattle.std.proofs.lemmas.Bool.{lt-ltb, ltb-true, eq-eqb, ne_eqb}
+use Rattle.std.proofs.Common.{◌≡◌, ℕ, ◌-◌, ◌<◌, ◌≤◌, ltb, ◌≢◌, List, length, get_or, take, reverse, filter, sym, ap, ◌∙◌, ⊎_elim, arith}
+use Rattle.std.proofs.lemmas.List.{length-take, get_or-take, get_or-reverse, get_or_past}
+use Rattle.std.proofs.lemmas.List.Sums.{suffix_len_is, prefix_len_passes}
+use Rattle.std.proofs.lemmas.Bool.{cases_lt, lt-ltb, ltb-true, eq-eqb, eqb-true, ne_eqb}
 use Rattle.links.specs.Links as links
 use Rattle.links.specs.Links.{FREE, at}
 use Rattle.links.specs.Stack.{trimmed}
@@ -28,6 +28,13 @@ kept_trimmed L S m le past k = record {
   };
 }
 
+-- the links that are trimmed are FREE
+pub past_trimmed : (L : List ℕ) (k : ℕ) → trimmed L ≤ k → at L k ≡ FREE
+past_trimmed L k l = ⊎_elim
+    (λ (h : k < length L).
+    sym (get_or-reverse L (length L - 1 - k) FREE (omega arith) ∙ ap (λ j. get_or L j FREE) (omega arith)) ∙ eqb-true _ FREE (prefix_len_passes links.free (reverse L) (length L - 1 - k) FREE (omega arith)))
+    (λ h. get_or_past L k FREE h) (cases_lt k (length L))
+
 -- where a count down over trailing FREE links has come to
 pub record Trimming (L : List ℕ) (n : ℕ) : Type 0 where
   pub within : n ≤ length L
@@ -44,3 +51,7 @@ module _ (L : List ℕ) (n : ℕ) (t : Trimming L n) where
 pub trimmed_off : (L S L' S' : List ℕ) (m : ℕ) → Kept L S → m ≡ trimmed L → ((k : ℕ) → m ≤ k → at L k ≡ FREE)
     → L' ≡ take m L → S' ≡ filter (λ p. ltb p m) S → Kept L' S'
 trimmed_off L S L' S' m k e past table places = rw (table, places) (kept_trimmed L S m (omega arith) past k)
+
+-- so trimming leaves every link
+pub trimmed_same : (L : List ℕ) → at (take (trimmed L) L) ≡ at L
+trimmed_same L = trim L (trimmed L) (past_trimmed L)

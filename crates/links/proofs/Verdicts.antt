@@ -1,16 +1,17 @@
 -- The check: the steps of its loop, and that it accepts exactly the checked tables.
 -- Assumes nothing.
-use Rattle.std.proofs.Common.{◌≡◌, ℕ, zero, suc, ◌+◌, ◌<◌, ◌≤◌, Bool, true, false, cond, ◌||◌, eqb, ◌≢◌, ◌↔◌, List, length, get_or, take, set, replicate, Some, None, Ok, Err, Option, Result, sym, refl, ap, ◌∙◌, ⊎_elim, arith}
+use Rattle.std.proofs.Common.{◌≡◌, ℕ, ◌+◌, ◌<◌, ◌≤◌, Bool, true, false, cond, ◌||◌, eqb, ◌≢◌, ◌↔◌, List, length, get_or, take, set, replicate, Some, None, Ok, Err, Result, sym, refl, ap, ◌∙◌, ⊎_elim, arith}
 use Rattle.std.proofs.lemmas.List.{get_or-replicate, get_or-set_same, get_or-set_other, get_or-take, get_or_past, length-take, length-set, take_more}
 use Rattle.std.proofs.lemmas.Bool.{cases_Bool, cases_eq, cases_lt, cases_order, eq-eqb, ne_eqb, lt-ltb, le-ltb, or_right}
 use Rattle.std.proofs.lemmas.List.Recursion.{or_push}
 use Rattle.std.proofs.Math.Bool.{or-false}
 use Rattle.links.specs.declared.checks.LinkFault.{LinkFault}
 use Rattle.links.specs.declared.checks.LinkFault.TheVariants.{Dangling, Shared}
-use Rattle.links.specs.Check.{place_of, fault_at, or_else, first_fault, answer, verdict, Lowest}
+use Rattle.links.specs.Check.{place_of, fault_at, settled, verdict, Lowest}
 use Rattle.links.specs.Links.{FREE, POINTERS, at, Checked}
 use Rattle.links.specs.Walk.{holds}
 use Rattle.links.proofs.Counts.{inside}
+use Rattle.links.proofs.Searches.{none_first, first_none, first_some, none_settled}
 use Rattle.links.proofs.Traces.{none-holds, holds-none}
 
 module _ (L : List ℕ) (p v : ℕ) (pointer : v < POINTERS) where
@@ -40,36 +41,9 @@ module _ (L : List ℕ) (p : ℕ) where
   fault-fresh : at L p < POINTERS → fault_at L p ≡ None → holds (at L p) (take p L) ≡ true → ⊥
   fault-fresh l e t = let d = fault_met true l (fault_leads l e) t in let z : ◌≡◌ {A = ℕ} 0 1 = cc in omega arith
 
--- the search for the lowest fault
-module _ (L : List ℕ) where
-  first_none : (n p : ℕ) → ((k : ℕ) → k < p + n → fault_at L k ≡ None) → first_fault L n p ≡ None
-  first_none zero p h = refl
-  first_none (suc n) p h = rw (h p (omega arith)) (first_none n (suc p) (λ k l. h k (omega arith)))
-
-  first_some : (n p q : ℕ) (f : LinkFault) → p ≤ q → q < p + n → fault_at L q ≡ Some f → ((k : ℕ) → k < q → fault_at L k ≡ None) → first_fault L n p ≡ Some f
-  first_some zero p q f l m e h = absurd (omega arith)
-  first_some (suc n) p q f l m e h = ⊎_elim (λ (s : p ≡ q). let d : fault_at L p ≡ Some f = ap (fault_at L) s ∙ e in rw d)
-      (λ s. let i : p < q = omega arith in rw (h p i) (first_some n (suc p) q f i (omega arith) e h)) (cases_eq p q)
-
-  none_first : (n p : ℕ) → first_fault L n p ≡ None → (k : ℕ) → p ≤ k → k < p + n → fault_at L k ≡ None
-  none_first zero p h k l m = absurd (omega arith)
-  none_first (suc n) p h k l m = go (none_first n (suc p)) (fault_at L p) refl h
-    where
-      go : (first_fault L n (suc p) ≡ None → (k : ℕ) → suc p ≤ k → k < suc p + n → fault_at L k ≡ None) → (o : Option LinkFault)
-          → fault_at L p ≡ o → or_else o (first_fault L n (suc p)) ≡ None → fault_at L k ≡ None
-      go r (Some f) e t = absurd (let z : ◌≡◌ {A = ℕ} 0 1 = cc in omega arith)
-      go r None e t = ⊎_elim (λ (s : k ≡ p). ap (fault_at L) s ∙ e) (λ s. r t k (omega arith) (omega arith)) (cases_eq k p)
-
-  pub lowest_verdict : (r : Result Unit LinkFault) → Lowest L r → r ≡ verdict L
-  lowest_verdict (Ok u) h = ap answer (sym (first_none (length L) 0 (λ k l. h k (omega arith))))
-  lowest_verdict (Err f) h = ap answer (sym (first_some (length L) 0 (place_of f) f (omega arith) (omega arith) h.1 h.2))
-
-  verdict-none : verdict L ≡ Ok tt → first_fault L (length L) 0 ≡ None
-  verdict-none = go (first_fault L (length L) 0)
-    where
-      go : (o : Option LinkFault) → answer o ≡ Ok tt → o ≡ None
-      go None e = refl
-      go (Some f) e = absurd (let z : ◌≡◌ {A = ℕ} 0 1 = cc in omega arith)
+pub lowest_verdict : (L : List ℕ) (r : Result Unit LinkFault) → Lowest L r → r ≡ verdict L
+lowest_verdict L (Ok u) h = ap (λ o. settled o tt) (sym (first_none (fault_at L) (length L) 0 (λ k l. h k (omega arith))))
+lowest_verdict L (Err f) h = ap (λ o. settled o tt) (sym (first_some (fault_at L) (length L) 0 (place_of f) f (omega arith) (omega arith) h.1 h.2))
 
 -- a table is accepted exactly if it is checked
 clean_checked : (L : List ℕ) → ((k : ℕ) → k < length L → fault_at L k ≡ None) → Checked (at L)
@@ -87,7 +61,7 @@ checked_clean L c p = ⊎_elim
 
 pub decides : (L : List ℕ) → (verdict L ≡ Ok tt) ↔ Checked (at L)
 decides L = (
-  λ e. clean_checked L (λ k l. none_first L (length L) 0 (verdict-none L e) k (omega arith) (omega arith)),
+  λ e. clean_checked L (λ k l. none_first (fault_at L) (length L) 0 (none_settled _ tt tt e).0 k (omega arith) (omega arith)),
   λ c. sym (lowest_verdict L (Ok tt) (λ p l. checked_clean L c p)),
 )
 

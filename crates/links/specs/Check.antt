@@ -1,6 +1,7 @@
 -- The check of a table: which fault a place has, and which place is the lowest that has one.
 -- Assumes nothing.
 use Rattle.std.specs.Prelude.{◌≡◌, ℕ, zero, suc, ◌<◌, cond, List, ◌++◌, length, codes, decimal, take, Some, None, Ok, Err, Option, Result, ◌==◌, nat_lt}
+use Rattle.std.specs.Option.{option_or}
 use Rattle.links.specs.declared.checks.LinkFault.{LinkFault}
 use Rattle.links.specs.declared.checks.LinkFault.TheVariants.{Dangling, Shared}
 use Rattle.links.specs.Links.{FREE, POINTERS, at}
@@ -33,22 +34,23 @@ pointer_fault L p v = cond (at L v == FREE) (Some (Dangling p)) (cond (holds v (
 abbrev pub fault_at : List ℕ → ℕ → Option LinkFault
 fault_at L p = cond (nat_lt (at L p) POINTERS) (pointer_fault L p (at L p)) None
 
-abbrev pub or_else : Option LinkFault → Option LinkFault → Option LinkFault
-or_else (Some f) o = Some f
-or_else None o = o
+-- the first that f finds at the n places from p on, rising
+abbrev pub first_of : {F : Type 0} → (ℕ → Option F) → ℕ → ℕ → Option F
+first_of f zero p = None
+first_of f (suc n) p = option_or (f p) (first_of f n (suc p))
+
+-- refused by what was found, or v
+abbrev pub settled : {A F : Type 0} → Option F → A → Result A F
+settled None v = Ok v
+settled (Some f) v = Err f
 
 -- the first fault of the n places from p on, rising
 abbrev pub first_fault : List ℕ → ℕ → ℕ → Option LinkFault
-first_fault L zero p = None
-first_fault L (suc n) p = or_else (fault_at L p) (first_fault L n (suc p))
-
-abbrev pub answer : Option LinkFault → Result Unit LinkFault
-answer None = Ok tt
-answer (Some f) = Err f
+first_fault L = first_of (fault_at L)
 
 -- what the check answers
 abbrev pub verdict : List ℕ → Result Unit LinkFault
-verdict L = answer (first_fault L (length L) 0)
+verdict L = settled (first_fault L (length L) 0) tt
 
 -- the same said without a search: accepted where no place has a fault, and else refused with that of the lowest place
 abbrev pub Lowest : List ℕ → Result Unit LinkFault → Type 0

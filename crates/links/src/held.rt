@@ -27,6 +27,13 @@ impl Links {
         }
     }
 
+    // All links, in the order of their places.
+    pub fn as_slice(&self) -> &[u32]
+        ensures { result.now ≡ links_of self.now }
+    {
+        self.links.as_slice()
+    }
+
     // One link more, behind the others; or false, and no change, where there are 4,096.
     // Kept: a bool, as with `set`.
     pub fn push(&mut self, link: u32) -> bool

@@ -1,14 +1,25 @@
 -- What a host tells of mini stream and MiniFAT, and what follows where it bears a table out.
 -- Assumes nothing.
-use Rattle.std.proofs.Common.{◌≡◌, ℕ, ◌*◌, ◌/◌, ◌^◌, ◌<◌, ◌≤◌, Bool, true, false, cond, not, ◌&&◌, ◌||◌, eqb, ◌≢◌, ◌⊎◌, List, [], ◌∷◌, length, Some, None, Option, unwrap_or, sym, refl, ap, ◌∙◌, inl, inr, ⊎_elim, mul-le-mul, zero-mul, arith}
+use Rattle.std.proofs.Common.{◌≡◌, ℕ, ◌*◌, ◌/◌, ◌%◌, ◌^◌, ◌<◌, ◌≤◌, Bool, true, false, cond, not, ◌&&◌, ◌||◌, eqb, ◌≢◌, ◌⊎◌, List, [], ◌∷◌, length, Some, None, Ok, Option, unwrap_or, sym, refl, ap, ◌∙◌, inl, inr, ⊎_elim, mul-le-mul, zero-mul, arith}
 use native.Mathlib.Nat.{zero-div}
 use Rattle.std.specs.Option.{option_map}
 use Rattle.std.proofs.lemmas.Bool.{and_parts, and_from, or_cases, or_left, or_right, not-true, eqb-true, eqb-false, eq-eqb, ne_eqb, leb-true, le-leb}
 use Rattle.links.specs.Links.{END}
 use Rattle.rooms.specs.declared.Ground.{Ground}
-use Rattle.store.specs.Meaning.{Store, Lawful, bytes_of, units_of}
-use Rattle.mini.specs.Mini.{root_of, stream_at, fat_at, count_of, asked_of, fitting, ground_of, grounded, ground_if, Present, Borne}
+use Rattle.store.specs.Refusals.{answer}
+use Rattle.store.specs.Meaning.{Store, Lawful, bytes_of, units_of, headed}
+use Rattle.mini.specs.Mini.{root_of, stream_at, fat_at, sectors_of, count_of, asked_of, fitting, ground_of, grounded, ground_if, Present, Borne}
 use Rattle.mini.specs.declared.Asked.{Asked}
+
+-- sectors that are told without a refusal
+pub sectors_counted : (s : Store) (layer h : ℕ) (none : Bool) (n : ℕ) → sectors_of s layer h none ≡ Ok n → count_of s h none ≡ Some n
+sectors_counted s layer h none n e = go (none && eqb h END) (s.chain h) e
+  where
+    go : (b : Bool) (o : Option (List ℕ)) → cond b (Ok 0) (answer (headed o layer h None) (length (unwrap_or o []) / s.unit)) ≡ Ok n
+        → cond b (Some 0) (option_map (λ xs. length xs / s.unit) o) ≡ Some n
+    go true o q = cc
+    go false None q = cc
+    go false (Some xs) q = cc
 
 -- the sectors of a chain, where they are told
 module _ (most : ℕ) (s : Store) (ok : Lawful most s) where
@@ -60,28 +71,32 @@ module _ (most : ℕ) (s : Store) (ok : Lawful most s) where
   pub bytes_few : (h : ℕ) → length (bytes_of s h) ≤ 16777216
   bytes_few h = omega (arith, whole_units h, mul-le-mul (units_few h) ok.small)
 
-  module _ (m f t : ℕ) where
+  module _ (m f t : ℕ) (lm : Lies (stream_at s) (eqb (root_of s).length 0) m) (lf : Lies (fat_at s) (eqb s.notes.words.count 0) f) where
+    -- figures that bear a table of t links out
+    pub borne_by : (stream_at s ≢ fat_at s) ⊎ (fat_at s ≡ END) → (root_of s).length % 64 ≡ 0 → 64 * t ≤ (root_of s).length → (root_of s).length ≤ m * s.unit
+        → s.notes.words.count ≡ f → 4 * t ≤ f * s.unit → Borne s t
+    borne_by two whole links inside counted table = record {
+      two = two;
+      whole = whole;
+      links = links;
+      inside = omega (arith, inside, ap (λ k. k * s.unit) lm.units, whole_units (stream_at s));
+      counted = counted ∙ lf.units;
+      table = omega (arith, table, ap (λ k. k * s.unit) lf.units, whole_units (fat_at s));
+      stream = ⊎_elim (λ p. inl (eqb-true _ _ p.0, p.1)) inr lm.there;
+      fat = ⊎_elim (λ p. inl (eqb-true _ _ p.0, p.1)) inr lf.there;
+    }
+
     apart_from : (not (eqb (stream_at s) (fat_at s)) || eqb (fat_at s) END) ≡ true → (stream_at s ≢ fat_at s) ⊎ (fat_at s ≡ END)
     apart_from h = ⊎_elim (λ e. inl (eqb-false _ _ (not-true _ e))) (λ e. inr (eqb-true _ _ e)) (or_cases _ _ h)
 
-    borne_fitting : Lies (stream_at s) (eqb (root_of s).length 0) m → Lies (fat_at s) (eqb s.notes.words.count 0) f
-        → fitting (root_of s) s.notes.words s.unit m f t ≡ true → Borne s t
-    borne_fitting lm lf h =
+    borne_fitting : fitting (root_of s) s.notes.words s.unit m f t ≡ true → Borne s t
+    borne_fitting h =
         let a = and_parts _ _ h in
         let b = and_parts _ _ a.1 in
         let c = and_parts _ _ b.1 in
         let d = and_parts _ _ c.1 in
         let e = and_parts _ _ d.1 in
-        record {
-          two = apart_from a.0;
-          whole = eqb-true _ _ b.0;
-          links = leb-true _ _ c.0;
-          inside = omega (arith, leb-true _ _ d.0, ap (λ k. k * s.unit) lm.units, whole_units (stream_at s));
-          counted = eqb-true _ _ e.0 ∙ lf.units;
-          table = omega (arith, leb-true _ _ e.1, ap (λ k. k * s.unit) lf.units, whole_units (fat_at s));
-          stream = ⊎_elim (λ p. inl (eqb-true _ _ p.0, p.1)) inr lm.there;
-          fat = ⊎_elim (λ p. inl (eqb-true _ _ p.0, p.1)) inr lf.there;
-        }
+        borne_by (apart_from a.0) (eqb-true _ _ b.0) (leb-true _ _ c.0) (leb-true _ _ d.0) (eqb-true _ _ e.0) (leb-true _ _ e.1)
 
   -- where figures are told, the host bears the table out, and they are these
   pub told_borne : (t : ℕ) (g : Ground) → ground_if s t ≡ Some g → Borne s t × (g ≡ ground_of s t)

@@ -1,13 +1,15 @@
 -- Links as bytes: what a written link reads as, and that the others stay.
 -- Assumes nothing.
-use Rattle.std.proofs.Common.{◌≡◌, ℕ, ◌+◌, ◌-◌, ◌*◌, ◌/◌, ◌%◌, ◌^◌, ◌<◌, ◌≤◌, ◌≢◌, List, ◌++◌, length, get_or, take, drop, sym, refl, ap, ◌∙◌, ⊎_elim, mod-eq_of_lt, arith}
+use Rattle.std.proofs.Common.{◌≡◌, ℕ, ◌+◌, ◌-◌, ◌*◌, ◌/◌, ◌%◌, ◌^◌, ◌<◌, ◌≤◌, ◌≢◌, List, ◌++◌, length, get_or, replicate, take, drop, sym, refl, ap, ◌∙◌, ⊎_elim, mod-eq_of_lt, arith}
 use native.Mathlib.Nat.{div-div-eq-div-mul, div-add-mod}
-use Rattle.std.proofs.lemmas.List.{get_or_append_left, get_or-append_right, get_or-take, get_or-drop, length-take-le}
+use Rattle.std.proofs.lemmas.List.{get_or_append_left, get_or-append_right, get_or-take, get_or-drop, get_or-replicate, get_or_past, length-append, length-replicate, length-take-le}
 use Rattle.std.proofs.lemmas.Bool.{cases_eq, cases_lt}
 use Rattle.links.specs.Bytes.{bytes_of_link, link_in}
-use Rattle.links.specs.Links.{at}
+use Rattle.links.specs.Links.{FREE, at}
 use Rattle.links.specs.Chains.{Wrote}
 use Rattle.store.specs.Meaning.{laid}
+use Rattle.chain.proofs.Laid.{length-laid}
+use Rattle.mini.specs.Mini.{Backed}
 
 module _ (ys zs : List ℕ) (i : ℕ) (l : i + length zs ≤ length ys) where
   front : length (take i ys) ≡ i
@@ -34,6 +36,38 @@ module _ (ys zs : List ℕ) (i : ℕ) (l : i + length zs ≤ length ys) where
 pub link_left : (xs ys : List ℕ) (p : ℕ) → 4 * p + 4 ≤ length xs → link_in (xs ++ ys) p ≡ link_in xs p
 link_left xs ys p l = λ i. get_or_append_left xs ys 0 (4 * p) (omega arith) i + get_or_append_left xs ys 0 (4 * p + 1) (omega arith) i * 256
     + get_or_append_left xs ys 0 (4 * p + 2) (omega arith) i * 65536 + get_or_append_left xs ys 0 (4 * p + 3) (omega arith) i * 16777216
+
+-- links of bytes that are laid behind others
+pub link_right : (xs ys : List ℕ) (n k : ℕ) → length xs ≡ 4 * n → n ≤ k → link_in (xs ++ ys) k ≡ link_in ys (k - n)
+link_right xs ys n k e l =
+    let a : 4 * k - 4 * n ≡ 4 * (k - n) = omega arith in
+    let b : 4 * k + 1 - 4 * n ≡ 4 * (k - n) + 1 = omega arith in
+    let c : 4 * k + 2 - 4 * n ≡ 4 * (k - n) + 2 = omega arith in
+    let d : 4 * k + 3 - 4 * n ≡ 4 * (k - n) + 3 = omega arith in
+    rw (
+      get_or-append_right xs ys (4 * n) (4 * k) 0 e (omega arith),
+      get_or-append_right xs ys (4 * n) (4 * k + 1) 0 e (omega arith),
+      get_or-append_right xs ys (4 * n) (4 * k + 2) 0 e (omega arith),
+      get_or-append_right xs ys (4 * n) (4 * k + 3) 0 e (omega arith),
+      a,
+      b,
+      c,
+      d,
+    ) refl
+
+-- bytes of 255 are FREE links
+link_free : (n p : ℕ) → 4 * p + 4 ≤ n → link_in (replicate n 255) p ≡ FREE
+link_free n p l = λ i. get_or-replicate n (4 * p) 255 0 (omega arith) i + get_or-replicate n (4 * p + 1) 255 0 (omega arith) i * 256
+    + get_or-replicate n (4 * p + 2) 255 0 (omega arith) i * 65536 + get_or-replicate n (4 * p + 3) 255 0 (omega arith) i * 16777216
+
+-- the bytes of a table are still those with such links behind them
+pub backed_more : (ys : List ℕ) (n r k : ℕ) (L : List ℕ) → length ys ≡ 4 * k → 4 * length L ≤ length ys → Backed ys r L → Backed (ys ++ replicate n 255) r L
+backed_more ys n r k L e t b = record {
+  links = λ p l. link_left ys _ p (omega arith) ∙ b.links p l;
+  rest = λ m p l. ⊎_elim
+      (λ (h : p < k). link_left ys _ p (omega arith) ∙ b.rest m p (omega arith))
+      (λ (h : k ≤ p). link_right ys _ k p e h ∙ link_free n (p - k) (omega (arith, l, length-append ys (replicate n 255), length-replicate {A = ℕ} n 255)) ∙ sym (get_or_past L p FREE (omega arith))) (cases_lt p k);
+}
 
 -- a number by its four bytes
 split : (v : ℕ) → v < 2 ^ 32 → v % 256 + v / 256 % 256 * 256 + v / 65536 % 256 * 65536 + v / 16777216 % 256 * 16777216 ≡ v
@@ -67,9 +101,15 @@ module _ (ys : List ℕ) (p v : ℕ) (l : 4 * p + 4 ≤ length ys) where
       first : get_or (laid ys (4 * p) (bytes_of_link v)) (4 * q) 0 ≡ get_or ys (4 * q) 0
       first = let z : 4 * q ≡ 4 * q + 0 = omega arith in ap (λ j. get_or (laid ys (4 * p) (bytes_of_link v)) j 0) z ∙ each 0 (omega arith) ∙ ap (λ j. get_or ys j 0) (sym z)
 
-  -- a table whose links the bytes are, after both have another link
-  pub links_wrote : (L L' : List ℕ) → v < 2 ^ 32 → Wrote (at L) (at L') p v → ((q : ℕ) → q < length L' → q ≢ p → q < length L)
-      → ((q : ℕ) → q < length L → link_in ys q ≡ at L q) → (q : ℕ) → q < length L' → link_in (laid ys (4 * p) (bytes_of_link v)) q ≡ at L' q
-  links_wrote L L' small w within synced q m = ⊎_elim
-      (λ (e : q ≡ p). rw e (link_here small ∙ sym w.here))
-      (λ n. link_other q n ∙ synced q (within q m n) ∙ sym (w.rest q n)) (cases_eq q p)
+  -- a table whose links the bytes are, after both have another link; r and r' are the root lengths before and after
+  pub links_wrote : (L L' : List ℕ) (r r' : ℕ) → v < 2 ^ 32 → Wrote (at L) (at L') p v → ((q : ℕ) → q < length L' → q ≢ p → q < length L)
+      → (64 * length L' < r' → 64 * length L < r) → Backed ys r L → Backed (laid ys (4 * p) (bytes_of_link v)) r' L'
+  links_wrote L L' r r' small w within longer k = record {
+    links = λ q m. each q (λ n. k.links q (within q m n));
+    rest = λ m q l. each q (λ n. k.rest (longer m) q (omega (arith, l, length-laid ys (bytes_of_link v) (4 * p) fits)));
+  }
+    where
+      each : (q : ℕ) → (q ≢ p → link_in ys q ≡ at L q) → link_in (laid ys (4 * p) (bytes_of_link v)) q ≡ at L' q
+      each q synced = ⊎_elim
+          (λ (e : q ≡ p). rw e (link_here small ∙ sym w.here))
+          (λ n. link_other q n ∙ synced n ∙ sym (w.rest q n)) (cases_eq q p)

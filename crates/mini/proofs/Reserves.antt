@@ -87,12 +87,13 @@ laid_behind xs ys zs u e n =
     let all : drop (0 + length zs) ys ≡ [] = drop_all (0 + length zs) ys (omega arith) in
     ap (λ k. laid (xs ++ ys) k zs) z ∙ laid_right xs ys zs u 0 e ∙ ap (λ l. xs ++ l) (ap (λ l. zs ++ l) all ∙ append-nil zs)
 
+-- a chain that is none is none whether it is hidden or not
+pub both-none : (b : Bool) (o : Option (List ℕ)) → o ≡ None → cond b None o ≡ None
+both-none true o e = refl
+both-none false o e = e
+
 -- what the mini store leaves as it is, where the chain of start is now that of h, longer
 module _ (most : ℕ) (s : Store) (ok : Lawful most s) (start h : ℕ) (w : Option (List ℕ)) (head : ((h ≡ start) × (start ≢ END)) ⊎ ((start ≡ END) × (s.chain h ≡ None) × (h ≤ MAX_HEAD))) where
-  both-none : (b : Bool) (o : Option (List ℕ)) → o ≡ None → cond b None o ≡ None
-  both-none true o e = refl
-  both-none false o e = e
-
   or_none : (b c : Bool) → c ≡ false → (b || c) ≡ b
   or_none b c e = ap (λ d. b || d) e ∙ or-false b
 

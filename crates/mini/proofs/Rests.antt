@@ -18,14 +18,14 @@ use Rattle.rooms.specs.declared.Ground.{Ground}
 use Rattle.rooms.specs.Rooms.{fats_needed, minis_needed, need, fits, growth, reserved, taller}
 use Rattle.rooms.proofs.Rooms.{Fair, fits_parts, reserve_same, reserve_none, taller_less}
 use Rattle.mini.specs.Adding.{AddsFats, AddsMinis}
-use Rattle.mini.specs.Mini.{root_of, stream_at, fat_at, ground_of, Borne, kept_part, dry, web_of, Synced}
+use Rattle.mini.specs.Mini.{root_of, stream_at, fat_at, ground_of, Borne, kept_part, dry, web_of, Backed, Synced}
 use Rattle.mini.specs.Steps.{rooted, Trims}
-use Rattle.mini.proofs.Figures.{bytes_few}
+use Rattle.mini.proofs.Figures.{bytes_few, whole_units}
 use Rattle.mini.proofs.Growths.{dry-more, borne_fair}
-use Rattle.mini.proofs.Links.{link_left}
+use Rattle.mini.proofs.Links.{backed_more}
 use Rattle.mini.proofs.Reserves.{Added, reserved-added, added_borne, added_ground}
 use Rattle.mini.proofs.States.{hosted_same, entered_yes}
-use Rattle.mini.proofs.Swaps.{kept_rooted, bytes_rooted, ground_rooted, borne_rooted}
+use Rattle.mini.proofs.Swaps.{rooted_long, kept_rooted, bytes_rooted, ground_rooted, borne_rooted}
 use Rattle.mini.proofs.Weaves.{mini_woven}
 
 -- more bytes behind those of a unit
@@ -56,6 +56,10 @@ module _ (most layer : ℕ) (s mid after : Store) (ok : Lawful most s) (okm : La
   room : (web_of after L S).room ≡ (web_of s L S).room
   room = ap (λ g. count_by free L + growth g) ground ∙ ap (λ n. count_by free L + n) (reserve_same (ground_of s (length L)) k fit)
 
+  fours : length (bytes_of s (fat_at s)) ≡ 4 * (length (bytes_of s (fat_at s)) / 4)
+  fours = let w = whole_units most s ok (fat_at s) in
+      ⊎_elim (λ e. omega (arith, w, ap (λ u. units_of s (fat_at s) * u) e)) (λ e. omega (arith, w, ap (λ u. units_of s (fat_at s) * u) e)) h.unit
+
   pub reserved_done : Reserved s after L S k
   reserved_done = record {
     means = same_stored (web_of s L S) (web_of after L S) (mini_woven s L S few kept b) (mini_woven after L S few kept borne) refl added.notes room refl
@@ -64,7 +68,7 @@ module _ (most layer : ℕ) (s mid after : Store) (ok : Lawful most s) (okm : La
     hosted = added.hosted;
     ready = omega (arith, ap (λ g. growth (dry g)) ground, dry-more (reserved (ground_of s (length L)) k) k (fits_parts (ground_of s (length L)) k fit).0 (reserve_none (ground_of s (length L)) k));
     room = room;
-    synced = λ y p l. ap (λ ys. link_in ys p) added.fat ∙ link_left (bytes_of s (fat_at s)) _ p (omega (arith, b.table, l)) ∙ y p l;
+    synced = λ y. subst (λ r. Backed (bytes_of after (fat_at after)) r L) (sym added.long) (subst (λ ys. Backed ys (root_of s).length L) (sym added.fat) (backed_more (bytes_of s (fat_at s)) _ (root_of s).length (length (bytes_of s (fat_at s)) / 4) L fours b.table y));
   }
 
 -- trailing FREE links went
@@ -88,8 +92,11 @@ module _ (most layer : ℕ) (s after : Store) (ok : Lawful most s) (h : Hosted s
   count : count_by free L ≡ count_by free L' + (length L - trimmed L)
   count = count_trimmed L (trimmed L) within past ∙ ap (λ M. count_by free M + (length L - trimmed L)) (sym tr.0)
 
-  synced_by : bytes_of after (fat_at after) ≡ bytes_of s (fat_at s) → Synced s L → Synced after L'
-  synced_by e y p l = ap (λ ys. link_in ys p) e ∙ y p (omega (arith, long', l)) ∙ ap (λ (f : ℕ → ℕ). f p) (sym same)
+  synced_by : bytes_of after (fat_at after) ≡ bytes_of s (fat_at s) → (64 * length L' < (root_of after).length → 64 * length L < (root_of s).length) → Synced s L → Synced after L'
+  synced_by e longer y = record {
+    links = λ p l. ap (λ ys. link_in ys p) e ∙ y.links p (omega (arith, long', l)) ∙ ap (λ (f : ℕ → ℕ). f p) (sym same);
+    rest = λ m p l. ap (λ ys. link_in ys p) e ∙ y.rest (longer m) p (omega (arith, l, ap length e)) ∙ ap (λ (f : ℕ → ℕ). f p) (sym same);
+  }
 
   -- none went
   none_went : length L - trimmed L ≡ 0 → Trimmed s after L L' S S'
@@ -101,7 +108,7 @@ module _ (most layer : ℕ) (s after : Store) (ok : Lawful most s) (h : Hosted s
         means = (λ i. stored (web_of (e i) (q i) S'));
         borne = rw (e, q) b;
         hosted = rw e h;
-        synced = synced_by (ap (λ z. bytes_of z (fat_at z)) e);
+        synced = synced_by (ap (λ z. bytes_of z (fat_at z)) e) (λ m. omega (arith, m, ap (λ z. (root_of z).length) e, ap length q));
       }
 
   -- some went
@@ -128,7 +135,7 @@ module _ (most layer : ℕ) (s after : Store) (ok : Lawful most s) (h : Hosted s
             (λ q u. ap (λ z. cell 64 (bytes_of z (stream_at z)) q) e ∙ ap (λ bs. cell 64 bs q) (bytes_rooted s h.some r'));
         borne = borne;
         hosted = rw e (hosted_same s _ h refl (length-set s.notes.entries 0 _));
-        synced = synced_by (ap (λ z. bytes_of z (fat_at z)) e);
+        synced = synced_by (ap (λ z. bytes_of z (fat_at z)) e) (λ m. omega (arith, m, ap (λ z. (root_of z).length) e, rooted_long s h.some r', long', b.links));
       }
     where
       sum : trimmed L + (length L - trimmed L) ≡ length L

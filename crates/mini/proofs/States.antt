@@ -14,7 +14,7 @@ use Rattle.rooms.specs.declared.Ground.{Ground}
 use Rattle.rooms.specs.Rooms.{growth}
 use Rattle.mini.specs.Mini.{root_of, stream_at, fat_at, ground_of, Borne, kept_part, sealed, dry, web_of}
 use Rattle.mini.specs.Steps.{relinked, rooted, zeroed}
-use Rattle.mini.proofs.Swaps.{bytes_here, bytes_other, ground_same, borne_same, kept_same, sealed_stream, sealed_fat, sealed_bytes, rooted_start, rooted_long, sealed-rooted, kept_rooted, bytes_rooted, ground_rooted}
+use Rattle.mini.proofs.Swaps.{bytes_here, bytes_apart, ground_same, borne_same, kept_same, sealed_stream, sealed_fat, sealed_bytes, rooted_start, rooted_long, sealed-rooted, kept_rooted, bytes_rooted, ground_rooted}
 
 -- a chain that has bytes is there, and a write within them is accepted
 module _ (s : Store) (h : ℕ) where
@@ -87,7 +87,7 @@ module _ (m s : Store) (xs ys : List ℕ) (r : ℕ) (b : Store) (k : State m s x
     state_link =
         let zs = laid (bytes_of s (fat_at s)) (4 * p) (bytes_of_link v) in
         record {
-          bytes = bytes_other s (fat_at s) zs s.room (stream_at s) two ∙ k.bytes;
+          bytes = bytes_apart s (fat_at s) s.room (Some zs) (stream_at s) two ∙ k.bytes;
           fat = bytes_here s (fat_at s) zs s.room ∙ ap (λ y. laid y (4 * p) (bytes_of_link v)) k.fat;
           long = k.long;
           below = sealed_fat s zs two ∙ ap (λ y. with_chain (sealed s) (fat_at s) (Some (laid y (4 * p) (bytes_of_link v))) s.room) (sym (sealed_bytes s two)) ∙ ap (λ z. relinked z p v) k.below;
@@ -115,7 +115,7 @@ module _ (m s : Store) (xs ys : List ℕ) (r : ℕ) (b : Store) (k : State m s x
         let zs = zeroed (bytes_of s (stream_at s)) p in
         record {
           bytes = bytes_here s (stream_at s) zs s.room ∙ ap (λ x. zeroed x p) k.bytes;
-          fat = bytes_other s (stream_at s) zs s.room (fat_at s) (λ e. two (sym e)) ∙ k.fat;
+          fat = bytes_apart s (stream_at s) s.room (Some zs) (fat_at s) (λ e. two (sym e)) ∙ k.fat;
           long = k.long;
           below = sealed_stream s zs ∙ k.below;
           notes = kept_same s (stream_at s) zs (inl refl) wipe_long ∙ k.notes;

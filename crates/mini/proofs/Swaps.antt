@@ -10,28 +10,46 @@ use Rattle.links.specs.Links.{END}
 use Rattle.store.specs.declared.entries.Entry.{Entry}
 use Rattle.store.specs.declared.entries.ObjType.TheVariants.{Unallocated}
 use Rattle.store.specs.Meaning.{Store, Notes, bytes_of, units_of, with_chain, moved}
+use Rattle.chain.proofs.Strands.{same_store}
 use Rattle.chain.proofs.Zeros.{chain_twice}
 use Rattle.rooms.specs.declared.Ground.{Ground}
 use Rattle.mini.specs.Mini.{root_of, stream_at, fat_at, ground_of, Present, Borne, kept_part, sealed}
 use Rattle.mini.specs.Steps.{rooted}
 
--- a store by its parts
-pub same_store : (m n : Store) → m.unit ≡ n.unit → m.chain ≡ n.chain → m.room ≡ n.room → m.notes ≡ n.notes → m ≡ n
-same_store m n a b c d = λ i. record { unit = a i; chain = b i; room = c i; notes = d i }
-
+-- notes and figures by their parts
 pub same_notes : (m n : Notes) → m.entries ≡ n.entries → m.words ≡ n.words → m.others ≡ n.others → m ≡ n
 same_notes m n a b c = λ i. record { entries = a i; words = b i; others = c i }
 
 pub same_ground : (g h : Ground) → g.unit ≡ h.unit → g.links ≡ h.links → g.root ≡ h.root → g.fats ≡ h.fats → g.minis ≡ h.minis → g.spare ≡ h.spare → g ≡ h
 same_ground g h a b c d e f = λ i. record { unit = a i; links = b i; root = c i; fats = d i; minis = e i; spare = f i }
 
--- what the chain of h is in a store with another chain there, and what those of others are
+-- another chain of h, or none: what those of others are
+module _ (s : Store) (h r : ℕ) (o : Option (List ℕ)) where
+  pub bytes_apart : (k : ℕ) → k ≢ h → bytes_of (with_chain s h o r) k ≡ bytes_of s k
+  bytes_apart k n = ap (λ x. unwrap_or x []) (update_apart s.chain h o k n)
+
+  pub present_apart : (k n : ℕ) → k ≢ h → Present s k n → Present (with_chain s h o r) k n
+  present_apart k n d (inl p) = inl p
+  present_apart k n d (inr (xs, e)) = inr (xs, update_apart s.chain h o k d ∙ e)
+
+  -- a table is borne out as before, where mini stream and MiniFAT are there and have as many bytes
+  pub borne_with : (t : ℕ) → length (bytes_of (with_chain s h o r) (stream_at s)) ≡ length (bytes_of s (stream_at s)) → length (bytes_of (with_chain s h o r) (fat_at s)) ≡ length (bytes_of s (fat_at s))
+      → Present (with_chain s h o r) (stream_at s) (root_of s).length → Present (with_chain s h o r) (fat_at s) s.notes.words.count → Borne s t → Borne (with_chain s h o r) t
+  borne_with t stream fat there_stream there_fat b = record {
+    two = b.two;
+    whole = b.whole;
+    links = b.links;
+    inside = omega (arith, b.inside, stream);
+    counted = b.counted ∙ ap (λ n. n / s.unit) (sym fat);
+    table = omega (arith, b.table, fat);
+    stream = there_stream;
+    fat = there_fat;
+  }
+
+-- what the chain of h is in a store with another chain there
 module _ (s : Store) (h : ℕ) (zs : List ℕ) (r : ℕ) where
   pub bytes_here : bytes_of (with_chain s h (Some zs) r) h ≡ zs
   bytes_here = ap (λ o. unwrap_or o []) (update_here s.chain h (Some zs))
-
-  pub bytes_other : (k : ℕ) → k ≢ h → bytes_of (with_chain s h (Some zs) r) k ≡ bytes_of s k
-  bytes_other k n = ap (λ o. unwrap_or o []) (update_apart s.chain h (Some zs) k n)
 
 -- in the order of two chains it does not matter which comes first
 pub chains_commute : (s : Store) (h k : ℕ) (v w : Option (List ℕ)) (q r : ℕ) → h ≢ k → with_chain (with_chain s h v q) k w r ≡ with_chain (with_chain s k w q) h v r
@@ -48,7 +66,7 @@ chains_commute s h k v w q r n = same_store _ _ refl (fun_ext each) refl refl
 -- as many bytes in the chain of h, which is the mini stream's or the MiniFAT's
 module _ (s : Store) (h : ℕ) (zs : List ℕ) (ours : (h ≡ stream_at s) ⊎ (h ≡ fat_at s)) (same : length zs ≡ length (bytes_of s h)) where
   pub long_same : (k : ℕ) → length (bytes_of (with_chain s h (Some zs) s.room) k) ≡ length (bytes_of s k)
-  long_same k = ⊎_elim (λ (e : k ≡ h). rw e (ap length (bytes_here s h zs s.room) ∙ same)) (λ n. ap length (bytes_other s h zs s.room k n)) (cases_eq k h)
+  long_same k = ⊎_elim (λ (e : k ≡ h). rw e (ap length (bytes_here s h zs s.room) ∙ same)) (λ n. ap length (bytes_apart s h s.room (Some zs) k n)) (cases_eq k h)
 
   pub units_same : (k : ℕ) → units_of (with_chain s h (Some zs) s.room) k ≡ units_of s k
   units_same k = ap (λ n. n / s.unit) (long_same k)
@@ -58,19 +76,10 @@ module _ (s : Store) (h : ℕ) (zs : List ℕ) (ours : (h ≡ stream_at s) ⊎ (
 
   present_same : (k n : ℕ) → Present s k n → Present (with_chain s h (Some zs) s.room) k n
   present_same k n (inl p) = inl p
-  present_same k n (inr (xs, e)) = inr (⊎_elim (λ (q : k ≡ h). (zs, rw q (update_here s.chain h (Some zs)))) (λ d. (xs, update_apart s.chain h (Some zs) k d ∙ e)) (cases_eq k h))
+  present_same k n (inr (xs, e)) = ⊎_elim (λ (q : k ≡ h). inr (zs, rw q (update_here s.chain h (Some zs)))) (λ d. present_apart s h s.room (Some zs) k n d (inr (xs, e))) (cases_eq k h)
 
   pub borne_same : (t : ℕ) → Borne s t → Borne (with_chain s h (Some zs) s.room) t
-  borne_same t b = record {
-    two = b.two;
-    whole = b.whole;
-    links = b.links;
-    inside = omega (arith, b.inside, long_same (stream_at s));
-    counted = b.counted ∙ sym (units_same (fat_at s));
-    table = omega (arith, b.table, long_same (fat_at s));
-    stream = present_same _ _ b.stream;
-    fat = present_same _ _ b.fat;
-  }
+  borne_same t b = borne_with s h s.room (Some zs) t (long_same (stream_at s)) (long_same (fat_at s)) (present_same _ _ b.stream) (present_same _ _ b.fat) b
 
   pub kept_same : kept_part (with_chain s h (Some zs) s.room) ≡ kept_part s
   kept_same = same_notes _ _ refl refl (fun_ext each)
@@ -90,7 +99,7 @@ pub sealed_fat : (s : Store) (zs : List ℕ) → stream_at s ≢ fat_at s → se
 sealed_fat s zs n = chains_commute s (fat_at s) (stream_at s) (Some zs) None s.room s.room (λ e. n (sym e))
 
 pub sealed_bytes : (s : Store) → stream_at s ≢ fat_at s → bytes_of (sealed s) (fat_at s) ≡ bytes_of s (fat_at s)
-sealed_bytes s n = ap (λ o. unwrap_or o []) (update_apart s.chain (stream_at s) None (fat_at s) (λ e. n (sym e)))
+sealed_bytes s n = bytes_apart s (stream_at s) s.room None (fat_at s) (λ e. n (sym e))
 
 -- another root length, and start
 module _ (es : List Entry) (some : 0 < length es) (st n : ℕ) where

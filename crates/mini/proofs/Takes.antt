@@ -1,11 +1,11 @@
 -- What taking a mini sector, linking one and giving one back make of the mini sectors, by what the host's calls leave.
 -- Assumes nothing.
-use Rattle.std.proofs.Common.{◌≡◌, ℕ, ◌+◌, ◌-◌, ◌*◌, ◌/◌, ◌<◌, ◌≤◌, ◌≢◌, List, [], ◌∷◌, ◌++◌, length, set, replicate, Some, count_by, sym, refl, ap, ◌∙◌, inl, inr, ⊎_elim, arith}
+use Rattle.std.proofs.Common.{◌≡◌, ℕ, ◌+◌, ◌-◌, ◌*◌, ◌/◌, ◌<◌, ◌≤◌, ◌≢◌, List, [], ◌∷◌, ◌++◌, length, set, replicate, Some, count_by, sym, refl, ap, ◌∙◌, subst, inr, ⊎_elim, arith}
 use Rattle.std.proofs.lemmas.List.{length-set, length_push, length-take}
-use Rattle.links.specs.Bytes.{bytes_of_link, link_in}
-use Rattle.links.specs.Links.{FREE, END, free, at, In}
+use Rattle.links.specs.Bytes.{bytes_of_link}
+use Rattle.links.specs.Links.{FREE, END, free, at}
 use Rattle.links.specs.Stack.{Stacks, place_after, links_taken, stack_taken}
-use Rattle.links.specs.Walk.{last_or}
+use Rattle.links.proofs.Members.{last_in}
 use Rattle.links.proofs.Counts.{inside}
 use Rattle.links.proofs.Effects.{wrote-set}
 use Rattle.links.proofs.Frees.{stack_count}
@@ -15,7 +15,7 @@ use Rattle.store.specs.Meaning.{Store, Hosted, Lawful, bytes_of, units_of, laid,
 use Rattle.chain.specs.Webs.{Web}
 use Rattle.chain.proofs.Laid.{length-laid}
 use Rattle.rooms.specs.Rooms.{growth, taller}
-use Rattle.mini.specs.Mini.{root_of, stream_at, fat_at, ground_of, Borne, kept_part, sealed, dry, web_of, Synced}
+use Rattle.mini.specs.Mini.{root_of, stream_at, fat_at, ground_of, Borne, kept_part, sealed, dry, web_of, Backed, Synced}
 use Rattle.mini.specs.Steps.{relinked, rooted, grown_root, zeroed, took_mini, put_mini, ended_mini, gave_mini}
 use Rattle.mini.proofs.Figures.{end_bytes, whole_units}
 use Rattle.mini.proofs.Links.{links_wrote}
@@ -43,13 +43,13 @@ pub record Made (m : Store) (M : List ℕ) (s : Store) (L S : List ℕ) (v : Web
 -- they are, where the host is in a state whose bytes the table is
 made_by : (m s : Store) (xs ys : List ℕ) (r : ℕ) (b : Store) → State m s xs ys r b → (M L L' S S' : List ℕ) (u : Store) (ready room : ℕ) → u ≡ s → L' ≡ L → S' ≡ S
     → count_by free L' + growth (dry (ground_at m r (length L'))) ≡ ready → count_by free L' + growth (ground_at m r (length L')) ≡ room → Borne s (length L')
-    → (Synced m M → (k : ℕ) → k < length L → link_in ys k ≡ at L k)
+    → (Synced m M → Backed ys r L)
     → Made m M u L' S' (record { unit = 64; links = L; bytes = xs; stack = S; ready = ready; room = room; below = b ∷ []; notes = kept_part m })
 made_by m s xs ys r b st M L L' S S' u ready room e el eS er eo bo sy = record {
   web = ap (λ z. web_of z L' S') e ∙ state_web m s xs ys r b L' S' st
       ∙ (λ i. record { unit = 64; links = el i; bytes = xs; stack = eS i; ready = er i; room = eo i; below = b ∷ []; notes = kept_part m });
   borne = rw e bo;
-  synced = λ k. rw (e, el) (λ p l. ap (λ zs. link_in zs p) st.fat ∙ sy k p l);
+  synced = λ k. rw (e, el) (subst (λ n. Backed (bytes_of s (fat_at s)) n L) (sym st.long) (subst (λ zs. Backed zs r L) (sym st.fat) (sy k)));
   hosted = rw e st.hosted;
 }
 
@@ -82,7 +82,7 @@ module _ (most layer : ℕ) (m : Store) (ok : Lawful most m) (h : Hosted m) (L S
         let g : ground_at m (root_of m).length (length L') ≡ ground_of m (length L) = ap (ground_at m (root_of m).length) n in
         made_by m m1 _ _ _ _ st L (set L p END) L' S S' s _ _ a el eS (λ i. c i + growth (dry (g i))) (λ i. c i + growth (g i))
         (rw n (borne_link m m _ _ _ _ start place_two (length L) b p END place_link))
-        (links_wrote (bytes_of m (fat_at m)) p END place_link L (set L p END) (omega arith) (wrote-set L p END place_below) (λ q i _. rw length-set at i))
+        (links_wrote (bytes_of m (fat_at m)) p END place_link L (set L p END) (root_of m).length (root_of m).length (omega arith) (wrote-set L p END place_below) (λ q i _. rw length-set at i) (λ i. rw length-set at i))
 
     -- it is given back
     pub gave_made : (s u : Store) (L' S' : List ℕ) → s ≡ wrote m layer (fat_at m) (4 * p) (bytes_of_link FREE) → u ≡ wrote s layer (stream_at s) (p * 64) (replicate 64 0)
@@ -102,7 +102,7 @@ module _ (most layer : ℕ) (m : Store) (ok : Lawful most m) (h : Hosted m) (L S
         let room : count_by free L' + growth (ground_at m (root_of m).length (length L')) ≡ (web_of m L S).room + 1 = omega (arith, count, ap growth g) in
         made_by m _ _ _ _ _ st2 L (set L p FREE) L' (S ++ p ∷ []) S' u _ _ c el eS ready room
         (rw n (borne_wipe m m1 _ _ _ _ st1 place_two (length L) b1 p place_bytes))
-        (links_wrote (bytes_of m (fat_at m)) p FREE place_link L (set L p FREE) (omega arith) (wrote-set L p FREE place_below) (λ q i _. rw length-set at i))
+        (links_wrote (bytes_of m (fat_at m)) p FREE place_link L (set L p FREE) (root_of m).length (root_of m).length (omega arith) (wrote-set L p FREE place_below) (λ q i _. rw length-set at i) (λ i. rw length-set at i))
 
 -- a host that is ready for the next place: with the root length r, for t links
 pub record Prepared (m s : Store) (L S : List ℕ) (r : ℕ) : Type 0 where
@@ -111,6 +111,7 @@ pub record Prepared (m s : Store) (L S : List ℕ) (r : ℕ) : Type 0 where
   pub two : stream_at s ≢ fat_at s
   pub bytes : place_after L S * 64 + 64 ≤ length (bytes_of m (stream_at m))
   pub link : 4 * place_after L S + 4 ≤ length (bytes_of m (fat_at m))
+  pub longer : 64 * length (links_taken L S) < r → 64 * length L < (root_of m).length
   pub count : ℕ
   pub frees : count_by free (links_taken L S) ≡ count
   pub ready : count + growth (dry (ground_at m r (length (links_taken L S)))) ≡ (web_of m L S).ready - 1
@@ -143,6 +144,7 @@ module _ (most : ℕ) (m : Store) (ok : Lawful most m) (h : Hosted m) (L : List 
         two = two-rooted m m _ _ _ _ start two (length L) b (r + 64);
         bytes = omega (arith, b.links, stream);
         link = omega (arith, fat);
+        longer = λ l. omega (arith, l, t1);
         count = 0;
         frees = count;
         ready = omega (arith, less.1, none, ap (λ x. growth (dry x)) ground);
@@ -166,18 +168,15 @@ module _ (most : ℕ) (m : Store) (ok : Lawful most m) (h : Hosted m) (L : List 
         two = apart_heads most m (length L) ok b (omega (arith, l, b.table));
         bytes = omega (arith, l, b.links, b.inside);
         link = omega (arith, l, b.table);
+        longer = λ i. rw n at i;
         count = length S;
         frees = sym k ∙ shorter;
         ready = omega (arith, whole, ap (λ x. growth (dry x)) ground);
         room = omega (arith, whole, ap growth ground);
       }
     where
-      last : (d x : ℕ) (S : List ℕ) → In (last_or d (x ∷ S)) (x ∷ S)
-      last d x [] = inl refl
-      last d x (y ∷ S) = inr (last x y S)
-
       below : (x : ℕ) (S : List ℕ) → Stacks L (x ∷ S) → place_after L (x ∷ S) < length L
-      below x S s = (s.free _ (last (length L) x S)).0
+      below x S s = (s.free _ (last_in (length L) (x ∷ S) (omega arith))).0
 
 -- the host's calls behind that: the link is written, the mini sector zeroed
 module _ (layer : ℕ) (m s s2 s3 : Store) (L S : List ℕ) (r : ℕ) (q : Prepared m s L S r)
@@ -210,8 +209,8 @@ module _ (layer : ℕ) (m s s2 s3 : Store) (L S : List ℕ) (r : ℕ) (q : Prepa
   room_now : count_by free (links_taken L S) + growth (ground_at m r (length (links_taken L S))) ≡ (web_of m L S).room - 1
   room_now = omega (arith, q.room, q.frees)
 
-  taken_synced : Kept L S → length L ≤ 4096 → Synced m L → (k : ℕ) → k < length (links_taken L S) → link_in (laid (bytes_of m (fat_at m)) (4 * place_after L S) (bytes_of_link END)) k ≡ at (links_taken L S) k
-  taken_synced kept few = links_wrote (bytes_of m (fat_at m)) (place_after L S) END q.link L (links_taken L S) (omega arith) (taking L S few kept.stacks).wrote (taken_within L S)
+  taken_synced : Kept L S → length L ≤ 4096 → Synced m L → Backed (laid (bytes_of m (fat_at m)) (4 * place_after L S) (bytes_of_link END)) r (links_taken L S)
+  taken_synced kept few = links_wrote (bytes_of m (fat_at m)) (place_after L S) END q.link L (links_taken L S) (root_of m).length r (omega arith) (taking L S few kept.stacks).wrote (taken_within L S) q.longer
 
   pub took_made : Kept L S → length L ≤ 4096 → Made m L s3 (links_taken L S) (stack_taken S) (took_mini (web_of m L S))
   took_made kept few =
@@ -242,5 +241,5 @@ module _ (layer : ℕ) (m s s2 s3 : Store) (L S : List ℕ) (r : ℕ) (q : Prepa
         let room : count_by free L' + growth (ground_at m r (length L')) ≡ (web_of m L S).room - 1 = omega (arith, room_now, same, ap growth g) in
         made_by m _ _ _ _ _ st L (set (links_taken L S) last (place_after L S)) L' (stack_taken S) (stack_taken S) s4 _ _ joined el refl ready room
         (rw long_joined (borne_link m wiped _ _ _ _ wiped_state q.two (length (links_taken L S)) wiped_borne last (place_after L S) fits_now))
-        (λ k. links_wrote (laid (bytes_of m (fat_at m)) (4 * place_after L S) (bytes_of_link END)) last (place_after L S) fits_now (links_taken L S) (set (links_taken L S) last (place_after L S)) (omega (arith, t.small))
-        (wrote-set (links_taken L S) last (place_after L S) there) (λ j i _. rw length-set at i) (taken_synced kept few k))
+        (λ k. links_wrote (laid (bytes_of m (fat_at m)) (4 * place_after L S) (bytes_of_link END)) last (place_after L S) fits_now (links_taken L S) (set (links_taken L S) last (place_after L S)) r r (omega (arith, t.small))
+        (wrote-set (links_taken L S) last (place_after L S) there) (λ j i _. rw length-set at i) (λ i. rw length-set at i) (taken_synced kept few k))

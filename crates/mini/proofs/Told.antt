@@ -6,7 +6,6 @@ use Rattle.std.specs.Map.{update}
 use Rattle.std.proofs.lemmas.Map.{update_here, update_apart}
 use Rattle.std.proofs.lemmas.Bool.{cases_eq, eq-eqb, ne_eqb, or_left}
 use Rattle.links.specs.Links.{END}
-use Rattle.links.specs.Bytes.{link_in}
 use Rattle.links.specs.Walk.{chain_of, surveyed, reach}
 use Rattle.links.proofs.Counts.{path_short}
 use Rattle.links.proofs.Stacks.{Kept}
@@ -15,9 +14,10 @@ use Rattle.chain.specs.Units.{content}
 use Rattle.chain.specs.Webs.{Woven, stored, viewed, path_of}
 use Rattle.chain.proofs.Weaves.{Chained, some_told, survey_some}
 use Rattle.rooms.specs.declared.Ground.{Ground}
-use Rattle.mini.specs.Mini.{root_of, stream_at, fat_at, ground_of, ground_if, Borne, kept_part, sealed, web_of, meant_by, mini, Synced}
+use Rattle.chain.proofs.Strands.{same_store}
+use Rattle.mini.specs.Mini.{root_of, stream_at, fat_at, ground_of, ground_if, Borne, kept_part, sealed, web_of, meant_by, mini, Backed, Synced}
 use Rattle.mini.proofs.Figures.{end_bytes, told_borne, borne_told}
-use Rattle.mini.proofs.Swaps.{same_store, same_notes, same_ground, sealed_bytes}
+use Rattle.mini.proofs.Swaps.{same_notes, same_ground, sealed_bytes}
 use Rattle.mini.proofs.Weaves.{mini_woven}
 
 -- where there are figures, it is open, and means the mini sectors that the table links
@@ -130,7 +130,7 @@ module _ (most : ℕ) (s u : Store) (oks : Lawful most s) (oku : Lawful most u) 
     alike_fat = sym (fat_sealed most u oku t bu) ∙ ap (λ z. bytes_of z (fat_at z)) e ∙ fat_sealed most s oks t bs
 
     pub alike_synced : (L : List ℕ) → Synced s L → Synced u L
-    alike_synced L k p l = ap (λ ys. link_in ys p) alike_fat ∙ k p l
+    alike_synced L k = subst (λ r. Backed (bytes_of u (fat_at u)) r L) (ap (λ z. (root_of z).length) (sym e)) (subst (λ ys. Backed ys (root_of s).length L) (sym alike_fat) k)
 
     pub alike_ground : length (bytes_of u (stream_at u)) ≡ length (bytes_of s (stream_at s)) → ground_of u t ≡ ground_of s t
     alike_ground n =

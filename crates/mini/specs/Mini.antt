@@ -129,6 +129,12 @@ meant_by (Some g) s L S = stored (web_of s L S)
 abbrev pub mini : Bool → Store → List ℕ → List ℕ → Store
 mini o s L S = meant_by (cond o (ground_if s (length L)) None) s L S
 
+-- the links in the MiniFAT's bytes ys are those of the table: those at its places; and where the root, of r bytes, has more
+-- mini sectors than the table has links, all of them, so that those behind the table are FREE
+pub record Backed (ys : List ℕ) (r : ℕ) (L : List ℕ) : Type 0 where
+  pub links : (p : ℕ) → p < length L → link_in ys p ≡ at L p
+  pub rest : 64 * length L < r → (p : ℕ) → p < length ys / 4 → link_in ys p ≡ at L p
+
 -- the MiniFAT's bytes are the links of the table
 abbrev pub Synced : Store → List ℕ → Type 0
-Synced s L = (p : ℕ) → p < length L → link_in (bytes_of s (fat_at s)) p ≡ at L p
+Synced s L = Backed (bytes_of s (fat_at s)) (root_of s).length L

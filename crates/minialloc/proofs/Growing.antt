@@ -1,7 +1,7 @@
 -- Beginning and extending a chain: the sectors are reserved, and so many mini sectors are ready.
 -- Assumes nothing.
-use Rattle.std.proofs.Common.{◌≡◌, ℕ, zero, suc, ◌+◌, ◌-◌, ◌<◌, ◌≤◌, true, ◌≢◌, List, [], ◌∷◌, ◌++◌, length, Some, None, Ok, count_by, Option, Result, sym, refl, ap, ◌∙◌, subst, arith}
-use Rattle.std.specs.Option.{MatchOption}
+use Rattle.std.proofs.Common.{◌≡◌, ℕ, zero, suc, ◌+◌, ◌-◌, ◌<◌, ◌≤◌, Bool, true, false, cond, min, ◌≢◌, List, [], ◌∷◌, ◌++◌, length, Some, None, Ok, count_by, Option, Result, sym, refl, ap, ◌∙◌, subst, arith}
+use Rattle.std.specs.Option.{MatchOption, option_map}
 use Rattle.links.specs.Links.{free, at, Head}
 use Rattle.links.specs.Walk.{last_or, reach}
 use Rattle.links.proofs.Frees.{stack_count}
@@ -13,12 +13,12 @@ use Rattle.rooms.specs.declared.Ground.{Ground}
 use Rattle.rooms.specs.Rooms.{fits, growth}
 use Rattle.rooms.proofs.Rooms.{fits_down, largest-fits}
 use Rattle.mini.specs.Adding.{Reserves}
-use Rattle.mini.specs.Mini.{ground_of, meant_by}
+use Rattle.mini.specs.Mini.{root_of, asked_of, fitting, ground_of, grounded, meant_by}
 use Rattle.mini.specs.Steps.{took_mini, put_mini}
 use Rattle.mini.proofs.Growths.{borne_fair}
 use Rattle.mini.proofs.Rests.{Reserved, reserved_done}
 use Rattle.mini.proofs.Told.{means_open}
-use Rattle.minialloc.specs.States.{State, figures_in, meant_in, web_in, next_mini, Sound, SyncedIn, hosted_by, Prepared, Prepares, BeginsChain, ExtendsChain}
+use Rattle.minialloc.specs.States.{State, figures_in, meant_in, web_in, next_mini, Sound, SyncedIn, hosted_by, roomier, Prepared, Prepares, BeginsChain, ExtendsChain}
 use Rattle.minialloc.specs.declared.Found.{Found}
 use Rattle.minialloc.proofs.Copies.{chain_here}
 use Rattle.minialloc.proofs.Lasting.{Lasting, Based, based, Seen}
@@ -127,3 +127,42 @@ pub room_told : {most : ℕ} {s z : State} (ok : Lasting most z) (left : ok.show
     → MatchOption o (n ≡ 0) P → ((g : Ground) → P g → n ≡ length ok.shown.0.stack + growth g) → n ≡ (meant_in s).room
 room_told {most} {s} ok left None n e k q = k ∙ ap (λ x. (meant_by x s.host s.links s.stack).room) e
 room_told ok left (Some g) n e k q = q g k ∙ ap (λ (y : State). length y.stack + growth g) left ∙ sym (room_of (based ok left g (sym e)))
+
+-- the figures over a host with the room r
+grown : (o : Bool) (m f : Option ℕ) (s : Store) (r t : ℕ)
+    → cond o (grounded (record s { room = r }) m f t) None ≡ option_map (λ (g : Ground). record g { spare = r }) (cond o (grounded s m f t) None)
+grown false m f s r t = refl
+grown true None f s r t = refl
+grown true (Some m) None s r t = refl
+grown true (Some m) (Some f) s r t = fitted (fitting (root_of s) s.notes.words s.unit m f t)
+  where
+    fitted : (b : Bool) → cond b (Some (ground_of (record s { room = r }) t)) None ≡ option_map (λ (g : Ground). record g { spare = r }) (cond b (Some (ground_of s t)) None)
+    fitted true = refl
+    fitted false = refl
+
+pub room_shut : (s : State) (k : ℕ) → None ≡ figures_in s → 0 ≡ (meant_in (roomier s k)).room
+room_shut s k e =
+    let m = s.host in
+    let r = (roomier s k).host.room in
+    let none : figures_in (roomier s k) ≡ None =
+    grown s.opened (asked_of m).minis (asked_of m).fats m r (length s.links) ∙ ap (option_map (λ (g : Ground). record g { spare = r })) (sym e) in
+    sym (ap (λ x. (meant_by x (roomier s k).host s.links s.stack).room) none)
+
+-- the room over a roomier host, by the figures of now
+pub room_roomier : (s : State) (k : ℕ) (g : Ground) → figures_in s ≡ Some g → (meant_in (roomier s k)).room ≡ count_by free s.links + growth (ground_of (roomier s k).host (length s.links))
+room_roomier s k g e =
+    let m = s.host in
+    let r = (roomier s k).host.room in
+    let some : figures_in (roomier s k) ≡ Some (record g { spare = r }) =
+    grown s.opened (asked_of m).minis (asked_of m).fats m r (length s.links) ∙ ap (option_map (λ (x : Ground). record x { spare = r })) e in
+    ap (λ x. (meant_by x (roomier s k).host s.links s.stack).room) some
+
+pub room_grown : {most : ℕ} {s z : State} (ok : Lasting most z) (left : ok.shown.0 ≡ s) (g : Ground) (k n : ℕ) → figures_in s ≡ Some g
+    → n ≡ length ok.shown.0.stack + growth (record g { spare = min (g.spare + k) 0xffffffff }) → n ≡ (meant_in (roomier s k)).room
+room_grown {most} {s} {z} ok left g k n e is =
+    let b = based ok left g e in
+    let told : g ≡ ground_of s.host (length s.links) = b.ground ∙ ap (λ (x : State). ground_of x.host (length x.links)) b.same in
+    let frees : length s.stack ≡ count_by free s.links =
+    subst (λ (x : State). length x.stack ≡ count_by free x.links) b.same (stack_count z.links z.stack b.lasts.kept) in
+    is ∙ ap (λ (x : State). length x.stack + growth (record g { spare = min (g.spare + k) 0xffffffff })) left
+    ∙ (λ i. frees i + growth (record (told i) { spare = min ((told i).spare + k) 0xffffffff })) ∙ sym (room_roomier s k g e)

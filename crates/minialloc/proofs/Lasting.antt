@@ -93,3 +93,7 @@ module _ {most : ℕ} {s z : State} (ok : Lasting most z) (left : ok.shown.0 ≡
 -- where nothing changed the MiniFAT's bytes are still the links
 pub still : {s z : State} → z ≡ s → SyncedIn s → SyncedIn z
 still same k = subst SyncedIn (sym same) k
+
+-- and the host still bears the table out
+pub stays : {s z : State} → z ≡ s → Sound s → Sound z
+stays same k = subst Sound (sym same) k

@@ -41,6 +41,9 @@ module _ {most : ℕ} (layer : ℕ) {s z x y : State} {h r : ℕ} {f : Found} (a
   opened : x.opened ≡ z.opened
   opened = sound.0 ∙ sym a.base.sound.0
 
+  pub trim_sound : Sound y
+  trim_sound = (tr.1 ∙ sound.0, trim.borne)
+
   pub trim_synced : SyncedIn x → SyncedIn y
   trim_synced = trim.synced
 

@@ -1,7 +1,7 @@
 -- The state of a mini store, and what its calls make of it: of the host's meaning, of the table and of the stack.
 -- Assumes nothing.
 use mathlib.Core.Path.{sym, ◌∙◌, contract'}
-use Rattle.std.specs.Prelude.{◌≡◌, ℕ, ◌+◌, ◌-◌, ◌<◌, ◌≤◌, Bool, true, if◌then◌else◌, List, [], length, is_some, Some, None, Ok, Err, count_by, Option, Result, slice_index}
+use Rattle.std.specs.Prelude.{◌≡◌, ℕ, ◌+◌, ◌-◌, ◌<◌, ◌≤◌, Bool, true, if◌then◌else◌, List, [], length, is_some, Some, None, Ok, Err, count_by, min, Option, Result, slice_index}
 use Rattle.links.specs.Links.{free}
 use Rattle.links.specs.Stack.{place_after}
 use Rattle.links.specs.Stacked.{table_of, stack_of}
@@ -66,6 +66,10 @@ SyncedIn s = Synced s.host s.links
 -- the place that is taken next
 abbrev pub next_mini : Web → ℕ
 next_mini w = place_after w.links w.stack
+
+-- the same over a host with n units of room more, as far as 32 bits can tell
+abbrev pub roomier : State → ℕ → State
+roomier s n = record s { host = record (s.host) { room = min (s.host.room + n) 0xffffffff } }
 
 -- a write lays the bytes over those of the mini sectors of a chain, and leaves table, stack and the rest of the host
 abbrev pub Writes : State → ℕ → ℕ → List ℕ → Result Unit Refused → State → Type 0

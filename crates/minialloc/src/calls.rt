@@ -1,7 +1,7 @@
 //! The mini store's own calls. Beside what a chain store promises they tell what becomes of host, table and stack: which mini
 //! sector is taken, in which order sectors are added, what is trimmed.
 
-ghost use Rattle.minialloc.specs.States.{figures_in, meant_in, SyncedIn, Writes, Prepared, BeginsChain, ExtendsChain, CutsChain, FreesChain, TrimsTo};
+ghost use Rattle.minialloc.specs.States.{meant_in, roomier, Sound, SyncedIn, Writes, Prepared, BeginsChain, ExtendsChain, CutsChain, FreesChain, TrimsTo};
 ghost use Rattle.std.specs.Prelude.{◌≡◌, ◌+◌, Some, None, length};
 ghost use Rattle.links.specs.Links.{at};
 ghost use Rattle.store.specs.Meaning.{units_of, due_head, due_copy, due_extend, due_cut, read_into, wrote, extended, cut_to, freed, Begins};
@@ -33,6 +33,18 @@ impl<H: Host> MiniStore<H> {
         self.figures().map_or(0, |ground| self.room_over(ground))
     }
 
+    // The units that could be given if the host had so many units of room more.
+    pub fn mini_room_with(&mut self, more: u32) -> u32
+        ensures told { result ≡ (meant_in (roomier self.old.state.0 more)).room }
+        ensures left { self.new.state.0 ≡ self.old.state.0 }
+    {
+        let Some(ground) = self.figures() else {
+            return 0;
+        };
+        let spare = ground.spare.saturating_add(more);
+        self.room_over(Ground { spare, ..ground })
+    }
+
     // How many mini sectors the chain of a head has.
     pub fn mini_units(&mut self, head: u32) -> Result<u32, StoreFault>
         ensures told { told result ≡ answer (due_head (meant_in self.old.state.0) 3 head) (units_of (meant_in self.old.state.0) head) }
@@ -59,6 +71,7 @@ impl<H: Host> MiniStore<H> {
         ensures left { meant_in self.new.state.0 ≡ wrote (meant_in self.old.state.0) 3 head at src.now }
         ensures writes { Writes self.old.state.0 head at src.now (told result) self.new.state.0 }
         ensures sound { SyncedIn self.old.state.0 → SyncedIn self.new.state.0 }
+        ensures stays { Sound self.old.state.0 → Sound self.new.state.0 }
     {
         self.holds(head, at, src.len())?;
         write_chain(self, head, at as usize, src);
@@ -83,6 +96,7 @@ impl<H: Host> MiniStore<H> {
         ensures begins { Begins (meant_in self.old.state.0) 3 count (told result) (meant_in self.new.state.0) }
         ensures taken { BeginsChain H.ChainStore.MOST H.ChainStore.LAYER self.old.state.0 count (told result) self.new.state.0 }
         ensures sound { SyncedIn self.old.state.0 → SyncedIn self.new.state.0 }
+        ensures stays { Sound self.old.state.0 → Sound self.new.state.0 }
     {
         if count == 0 {
             return Err(Refusal::BadCount.at(LAYER, 0));
@@ -98,6 +112,7 @@ impl<H: Host> MiniStore<H> {
         ensures left { meant_in self.new.state.0 ≡ extended (meant_in self.old.state.0) 3 head count }
         ensures taken { ExtendsChain H.ChainStore.MOST H.ChainStore.LAYER self.old.state.0 head count (told result) self.new.state.0 }
         ensures sound { SyncedIn self.old.state.0 → SyncedIn self.new.state.0 }
+        ensures stays { Sound self.old.state.0 → Sound self.new.state.0 }
     {
         let found = self.look(head, u32::MAX)?;
         self.prepare(found.ground, count, head)?;
@@ -125,6 +140,7 @@ impl<H: Host> MiniStore<H> {
         ensures left { meant_in self.new.state.0 ≡ cut_to (meant_in self.old.state.0) 3 head count }
         ensures cuts { CutsChain H.ChainStore.LAYER self.old.state.0 head count (told result) self.new.state.0 }
         ensures sound { SyncedIn self.old.state.0 → SyncedIn self.new.state.0 }
+        ensures stays { Sound self.old.state.0 → Sound self.new.state.0 }
     {
         let found = self.look(head, count.saturating_sub(1))?;
         if count == 0 || count > found.chain.units {
@@ -141,6 +157,7 @@ impl<H: Host> MiniStore<H> {
         ensures left { meant_in self.new.state.0 ≡ freed (meant_in self.old.state.0) 3 head }
         ensures frees { FreesChain H.ChainStore.LAYER self.old.state.0 head (told result) self.new.state.0 }
         ensures sound { SyncedIn self.old.state.0 → SyncedIn self.new.state.0 }
+        ensures stays { Sound self.old.state.0 → Sound self.new.state.0 }
     {
         let found = self.look(head, 0)?;
         release(self, head, found.chain.units);

@@ -3,10 +3,12 @@
 //! openness as they are. The header words are told; they are set by the mini store alone.
 
 ghost use Rattle.std.specs.Prelude.{◌≡◌, ◌+◌, length};
+ghost use Rattle.mini.specs.Mini.{root_of};
 ghost use Rattle.store.specs.Meaning.{Hosted, units_of, due_head, due_copy, due_extend, due_cut, due_entry, read_into, wrote, extended, cut_to, freed, Begins, entry_of, entered};
 ghost use Rattle.store.specs.Refusals.{told, answer};
 
 use crate::MiniStore;
+use mini::root;
 use store::entries::{Entry, Words};
 use store::faults::StoreFault;
 use store::stores::{ChainStore, Host};
@@ -101,6 +103,14 @@ impl<H: Host> MiniStore<H> {
         ensures left { self.new.state.0 ≡ self.old.state.0 }
     {
         self.host.entry(id)
+    }
+
+    // The root entry; where there is none, one of no kind and no bytes.
+    pub fn root(&mut self) -> Entry
+        ensures told { result ≡ root_of self.old.state.0.host }
+        ensures left { self.new.state.0 ≡ self.old.state.0 }
+    {
+        root(&mut self.host)
     }
 
     // Sets start and length of an entry; its kind stays.

@@ -24,6 +24,7 @@ pub mod calls;
 pub mod chains;
 pub mod hosts;
 pub mod opening;
+pub mod shown;
 mod units;
 
 // A host, and while it is open the table with its stack.

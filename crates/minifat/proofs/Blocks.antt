@@ -8,7 +8,7 @@ use Rattle.std.proofs.lemmas.Bool.{cases_lt, ltb-false, ne_eqb, cond-false}
 use Rattle.links.specs.Bytes.{link_in}
 use Rattle.store.specs.Refusals.{Refused, answer, unless}
 use Rattle.store.specs.Meaning.{Store, bytes_of, headed, due_copy, read_into}
-use Rattle.mini.proofs.Links.{link_left}
+use Rattle.mini.proofs.Links.{link_left, link_right}
 use Rattle.minifat.specs.Gathered.{Gathering, none, added, gathered, due_blocks}
 use Rattle.minifat.specs.Table.{all_links}
 
@@ -18,23 +18,6 @@ answer_due None x v e = refl
 answer_due (Some f) x v e = cc
 
 -- links of bytes that are laid end to end
-link_right : (xs ys : List ℕ) (n k : ℕ) → length xs ≡ 4 * n → n ≤ k → link_in (xs ++ ys) k ≡ link_in ys (k - n)
-link_right xs ys n k e l =
-    let a : 4 * k - 4 * n ≡ 4 * (k - n) = omega arith in
-    let b : 4 * k + 1 - 4 * n ≡ 4 * (k - n) + 1 = omega arith in
-    let c : 4 * k + 2 - 4 * n ≡ 4 * (k - n) + 2 = omega arith in
-    let d : 4 * k + 3 - 4 * n ≡ 4 * (k - n) + 3 = omega arith in
-    rw (
-      get_or-append_right xs ys (4 * n) (4 * k) 0 e (omega arith),
-      get_or-append_right xs ys (4 * n) (4 * k + 1) 0 e (omega arith),
-      get_or-append_right xs ys (4 * n) (4 * k + 2) 0 e (omega arith),
-      get_or-append_right xs ys (4 * n) (4 * k + 3) 0 e (omega arith),
-      a,
-      b,
-      c,
-      d,
-    ) refl
-
 links_append : (xs ys : List ℕ) (n : ℕ) → length xs ≡ 4 * n → all_links (xs ++ ys) ≡ all_links xs ++ all_links ys
 links_append xs ys n e = same_lists _ _ (omega (arith, whole, left, right, length-append (all_links xs) (all_links ys))) each
   where

@@ -1,16 +1,15 @@
 -- The sectors of a chain, as a host tells them.
 -- Assumes nothing.
-use Rattle.std.proofs.Common.{◌≡◌, ℕ, ◌*◌, ◌<◌, ◌≤◌, Bool, true, false, cond, ◌&&◌, eqb, ◌≢◌, List, length, take, Some, None, Ok, Err, Option, Result, refl, ap, ◌∙◌, ⊎_elim, mul_assoc, mul-le-mul, zero-mul, MatchResult, arith}
+use Rattle.std.proofs.Common.{◌≡◌, ℕ, ◌*◌, ◌<◌, ◌≤◌, Bool, ◌≢◌, length, take, None, Ok, Err, Result, sym, ap, ◌∙◌, ⊎_elim, mul_assoc, mul-le-mul, zero-mul, MatchResult, arith}
 use Rattle.std.proofs.Math.Nat.{mul-pos}
 use Rattle.std.proofs.lemmas.List.{take_all}
-use Rattle.std.proofs.lemmas.Bool.{cases_eq, and_parts, eqb-true, le-ltb, eq-eqb, ne_eqb, cond-true, cond-false}
-use Rattle.links.specs.Links.{END}
+use Rattle.std.proofs.lemmas.Bool.{cases_eq, le-ltb, eq-eqb, ne_eqb, cond-true, cond-false}
 use Rattle.store.specs.declared.faults.Fault.{Fault}
 use Rattle.store.specs.declared.faults.StoreFault.{StoreFault}
-use Rattle.store.specs.Refusals.{told, answer}
-use Rattle.store.specs.Meaning.{Store, Lawful, bytes_of, units_of, headed, due_head, due_copy}
+use Rattle.store.specs.Refusals.{told}
+use Rattle.store.specs.Meaning.{Store, Lawful, bytes_of, units_of, due_copy}
 use Rattle.mini.specs.Mini.{sectors_of}
-use Rattle.mini.proofs.Figures.{end_units, whole_units, units_few}
+use Rattle.mini.proofs.Figures.{sectors_counted, whole_units, units_few, count_lies}
 use Rattle.mini.proofs.States.{some_chain}
 use Rattle.minifat.specs.Gathered.{due_blocks}
 
@@ -35,16 +34,8 @@ module _ (most : ℕ) (s : Store) (ok : Lawful most s) (layer h : ℕ) where
         copied = λ l. rw (some_chain s h (omega (arith, w, mul-pos l ok.unit))) (cond-false _ _ _ (le-ltb (length (bytes_of s h)) (n * s.unit) (omega (arith, w))));
       }
     where
-      told_units : (o : Option (List ℕ)) → Ok n ≡ answer (headed o layer h None) (units_of s h) → n ≡ units_of s h
-      told_units None q = cc
-      told_units (Some xs) q = cc
-
-      go : (b : Bool) → (none && eqb h END) ≡ b → Ok n ≡ cond b (Ok 0) (answer (due_head s layer h) (units_of s h)) → n ≡ units_of s h
-      go true p q = let u = end_units most s ok h (eqb-true h END (and_parts none (eqb h END) p).1) in cc
-      go false p q = told_units (s.chain h) q
-
       units : n ≡ units_of s h
-      units = go (none && eqb h END) refl e
+      units = (count_lies most s ok h none n (sectors_counted s layer h none n (sym e))).units
 
   -- a length within them
   pub length_few : (none : Bool) (n : ℕ) → Ok n ≡ sectors_of s layer h none → (u m v long : ℕ) → u ≡ s.unit → m ≡ n → v ≡ u → long ≤ m * v → long ≤ 16777216

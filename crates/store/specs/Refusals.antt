@@ -1,10 +1,11 @@
 -- Refusals by their numbers.
 -- Assumes nothing.
 use Rattle.std.specs.Fmt.{decimal}
-use Rattle.std.specs.Prelude.{ℕ, List, ◌++◌, codes, Some, None, Ok, Err, Option, Result}
+use Rattle.std.specs.Prelude.{ℕ, List, [], ◌++◌, codes, Some, None, Ok, Err, Option, Result}
 use Rattle.store.specs.declared.faults.Refusal.{Refusal}
 use Rattle.store.specs.declared.faults.Refusal.TheVariants.{Shut, NotStream, PastLength, TooLong, NoRoom, DanglingPointer, SharedPointer, TableOverRoot, BadMinifat, BadRoot, BadStream, SharedHead, BadImage, NotHead, PastEnd, BadCount, NoEntry}
 use Rattle.store.specs.declared.faults.StoreFault.{StoreFault}
+use Rattle.store.specs.declared.faults.Fault.{Fault}
 
 -- the number of each refusal
 abbrev pub number_of : Refusal → ℕ
@@ -26,10 +27,22 @@ number_of PastEnd = 15
 number_of BadCount = 16
 number_of NoEntry = 17
 
+-- number, layer and place of a store's fault, as they are printed
+abbrev pub place_text : StoreFault → List ℕ
+place_text f = decimal (number_of f.refusal) ++ (codes " layer " ++ (decimal f.layer ++ (codes " place " ++ decimal f.place)))
+
 -- how a store's fault is printed
 abbrev pub fault_text : StoreFault → List ℕ
-fault_text f =
-    codes "refused " ++ (decimal (number_of f.refusal) ++ (codes " layer " ++ (decimal f.layer ++ (codes " place " ++ decimal f.place))))
+fault_text f = codes "refused " ++ place_text f
+
+-- how the store's fault behind another is printed, where there is one
+abbrev pub cause_text : Option StoreFault → List ℕ
+cause_text None = []
+cause_text (Some f) = codes " by " ++ place_text f
+
+-- how the fault of a layer above is printed: as a store's fault, and with the one behind it
+abbrev pub whole_text : Fault → List ℕ
+whole_text f = fault_text (record { refusal = f.refusal; layer = f.layer; place = f.place }) ++ cause_text f.lower
 
 -- a store's refusal: number, layer, place
 pub record Refused : Type 0 where

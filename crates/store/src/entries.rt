@@ -23,6 +23,13 @@ impl ObjType {
     {
         u8::from(self) == 5
     }
+
+    // Whether it is a stream's, by the byte that it stands for.
+    pub fn is_stream(self) -> bool
+        ensures { result ≡ (byte_of self == 2) }
+    {
+        u8::from(self) == 2
+    }
 }
 
 impl From<u8> for ObjType {

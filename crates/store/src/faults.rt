@@ -2,7 +2,7 @@
 
 ghost use Rattle.links.specs.Check as check;
 ghost use Rattle.std.specs.Prelude.{◌≡◌, Some};
-ghost use Rattle.store.specs.Refusals.{number_of, fault_text};
+ghost use Rattle.store.specs.Refusals.{number_of, place_text, fault_text, whole_text};
 
 use links::checks::LinkFault;
 use std::fmt;
@@ -69,14 +69,27 @@ pub struct StoreFault {
     pub place: u32,
 }
 
+// Number, layer and place of a store's fault, as both kinds of faults are printed with them.
+#[derive(Clone, Copy)]
+struct Place(StoreFault);
+
+impl fmt::Display for Place {
+    ghost output = { λ p. Some (place_text p.0) };
+
+    fn fmt<W: fmt::Write>(&self, f: &mut fmt::Formatter<W>) -> fmt::Result {
+        let number = self.0.refusal.number();
+        let layer = self.0.layer;
+        let place = self.0.place;
+        write!(f, "{number} layer {layer} place {place}")
+    }
+}
+
 impl fmt::Display for StoreFault {
     ghost output = { λ f. Some (fault_text f) };
 
     fn fmt<W: fmt::Write>(&self, f: &mut fmt::Formatter<W>) -> fmt::Result {
-        let number = self.refusal.number();
-        let layer = self.layer;
-        let place = self.place;
-        write!(f, "refused {number} layer {layer} place {place}")
+        let place = Place(*self);
+        write!(f, "refused {place}")
     }
 }
 
@@ -100,6 +113,21 @@ impl Fault {
             layer,
             place,
             ..self
+        }
+    }
+}
+
+impl fmt::Display for Fault {
+    ghost output = { λ f. Some (whole_text f) };
+
+    fn fmt<W: fmt::Write>(&self, f: &mut fmt::Formatter<W>) -> fmt::Result {
+        let own = self.refusal.at(self.layer, self.place);
+        match self.lower {
+            None => write!(f, "{own}"),
+            Some(lower) => {
+                let cause = Place(lower);
+                write!(f, "{own} by {cause}")
+            }
         }
     }
 }

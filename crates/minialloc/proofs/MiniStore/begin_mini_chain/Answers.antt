@@ -5,7 +5,7 @@ use Rattle.store.specs.Refusals.{refused_by}
 use Rattle.chain.proofs.Dues.{begin_no}
 use Rattle.minialloc.specs.States.{meant_in}
 use Rattle.minialloc.proofs.Growing.{room_of, ready, begun_yes, begun_takes}
-use Rattle.minialloc.proofs.Lasting.{lasting, based, still}
+use Rattle.minialloc.proofs.Lasting.{lasting, based, still, stays}
 use Rattle.minialloc.proofs.MiniStore.begin_mini_chain.Goals as goal
 
 pub returns-in_err-prepare : goal.returns-in_err-prepare
@@ -21,6 +21,7 @@ returns-in_err-prepare g c =
       );
       taken = same;
       sound = still same;
+      stays = stays same;
     })
 
 pub begin-requires : goal.begin-requires
@@ -41,4 +42,5 @@ returns g c =
       begins = begun_yes a ok h.sound c.begin.result c.if-count-eq0.false h.new.0 h.new.1 h.means;
       taken = begun_takes a ok h.sound c.begin.result h.told h.left;
       sound = λ k. h.keeps (a.synced k);
+      stays = λ k. h.sound;
     })

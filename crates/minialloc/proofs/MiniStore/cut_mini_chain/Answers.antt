@@ -2,8 +2,8 @@
 use Rattle.std.proofs.Common.{ap, arith, sym, ◌∙◌}
 use Rattle.chain.proofs.Dues.{told_no, left_no}
 use Rattle.minialloc.specs.States.{meant_in}
-use Rattle.minialloc.proofs.Lasting.{lasting, seen, still}
-use Rattle.minialloc.proofs.Shrinking.{cut_due, cut_place, cut_yes, cut_cuts, trim_synced}
+use Rattle.minialloc.proofs.Lasting.{lasting, seen, still, stays}
+use Rattle.minialloc.proofs.Shrinking.{cut_due, cut_place, cut_yes, cut_cuts, trim_sound, trim_synced}
 use Rattle.minialloc.proofs.MiniStore.cut_mini_chain.Goals as goal
 
 pub returns-then-count-eq0 : goal.returns-then-count-eq0
@@ -15,6 +15,7 @@ returns-then-count-eq0 g c =
       left = left_no _ _ _ _ _ due (ap meant_in c.look.ensures.left);
       cuts = c.look.ensures.left;
       sound = still c.look.ensures.left;
+      stays = stays c.look.ensures.left;
     }
 
 pub cut-requires : goal.cut-requires
@@ -42,4 +43,5 @@ returns g c =
       cuts = cut_cuts g.H.ChainStore.LAYER a okx oky c.cut.ensures.sound trims same c.args.count
           (cut_place a c.args.count c.saturating_sub.ensures c.if-count-eq0.false c.if-count-found.false) c.cut.ensures.left;
       sound = λ k. trim_synced g.H.ChainStore.LAYER a okx oky c.cut.ensures.sound trims same (c.cut.ensures.keeps (still (sym c.look.new.self.state.1 ∙ c.look.ensures.left) k));
+      stays = λ k. trim_sound g.H.ChainStore.LAYER a okx oky c.cut.ensures.sound trims same;
     })

@@ -5,7 +5,7 @@ use Rattle.chain.proofs.Dues.{extend_no, told_no, left_no}
 use Rattle.minialloc.specs.States.{meant_in}
 use Rattle.minialloc.proofs.Copies.{chain_here}
 use Rattle.minialloc.proofs.Growing.{ends_of, room_of, ready, extended_yes, extended_takes}
-use Rattle.minialloc.proofs.Lasting.{lasting, seen, still}
+use Rattle.minialloc.proofs.Lasting.{lasting, seen, still, stays}
 use Rattle.minialloc.proofs.MiniStore.extend_mini_chain.Goals as goal
 
 pub returns-in_err-prepare : goal.returns-in_err-prepare
@@ -19,6 +19,7 @@ returns-in_err-prepare g c =
       left = left_no _ _ _ _ _ due (ap meant_in same);
       taken = same;
       sound = still same;
+      stays = stays same;
     })
 
 pub lengthen-requires : goal.lengthen-requires
@@ -39,4 +40,5 @@ returns g c =
       left = y.1;
       taken = extended_takes a ok h.sound b (omega (arith, b.few)) h.left;
       sound = λ k. h.keeps (a.synced k);
+      stays = λ k. h.sound;
     })

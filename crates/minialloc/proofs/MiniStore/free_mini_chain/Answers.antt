@@ -1,7 +1,7 @@
 -- Assumes nothing.
 use Rattle.std.proofs.Common.{sym, ◌∙◌}
 use Rattle.minialloc.proofs.Lasting.{lasting, seen, still}
-use Rattle.minialloc.proofs.Shrinking.{freed_yes, freed_frees, trim_synced}
+use Rattle.minialloc.proofs.Shrinking.{freed_yes, freed_frees, trim_sound, trim_synced}
 use Rattle.minialloc.proofs.MiniStore.free_mini_chain.Goals as goal
 
 pub release-requires : goal.release-requires
@@ -22,4 +22,5 @@ returns g c =
       left = y.1;
       frees = freed_frees g.H.ChainStore.LAYER a okx oky c.release.ensures.sound trims same c.release.ensures.left;
       sound = λ k. trim_synced g.H.ChainStore.LAYER a okx oky c.release.ensures.sound trims same (c.release.ensures.keeps (still (sym c.look.new.self.state.1 ∙ c.look.ensures.left) k));
+      stays = λ k. trim_sound g.H.ChainStore.LAYER a okx oky c.release.ensures.sound trims same;
     })

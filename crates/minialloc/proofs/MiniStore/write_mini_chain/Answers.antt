@@ -27,4 +27,5 @@ returns g c =
       left = y.1;
       writes = write_writes a ok sound c.args.at c.args.src.now w;
       sound = write_sound a ok sound c.args.at c.args.src.now w;
+      stays = λ k. sound;
     })
