@@ -1,0 +1,5 @@
+-- Assumes nothing.
+use Rattle.workbook.proofs.homes.Home.cut.Goals as goal
+
+pub returns-in-Mini-clause-left : goal.returns-in-Mini-clause-left
+returns-in-Mini-clause-left g c = let t = c.cut_mini_chain.ensures in rw c.in-Mini.is (t.left, t.cuts, (t.stays, t.sound))

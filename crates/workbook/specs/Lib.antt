@@ -1,0 +1,12 @@
+pub mod Calls
+pub mod Events
+pub mod Histories
+pub mod Homes
+pub mod Laws
+pub mod Opening
+pub mod Promises
+pub mod Reading
+pub mod Refusals
+pub mod Sights
+pub mod Steps
+pub mod Whole
