@@ -49,13 +49,20 @@ Answered m layer (call.Write h at v) r after =
 abbrev pub hex : ℕ → ℕ → List ℕ
 hex width n = padded_integral (format_spec 32 0 4 width (2 ^ 64 - 1)) false [] (digits 16 false n)
 
+-- bytes in hexadecimal; no bytes as -
+abbrev pub hexed : List ℕ → List ℕ
+hexed bs = cond (length bs == 0) (codes "-") (flat_map (hex 2) bs)
+
 -- how bytes are printed: in hexadecimal, and more than 64 of them by their hash
 abbrev pub bytes_text : List ℕ → List ℕ
-bytes_text bs = cond (length bs == 0) (codes "-")
-    (cond (nat_lt 64 (length bs)) (codes "fnv:" ++ hex 16 (fold hashed 0xcbf29ce484222325 bs)) (flat_map (hex 2) bs))
+bytes_text bs = cond (nat_lt 64 (length bs)) (codes "fnv:" ++ hex 16 (fold hashed 0xcbf29ce484222325 bs)) (hexed bs)
+
+-- the answer of bytes: how many, and a text of them
+abbrev pub counted : List ℕ → List ℕ → List ℕ
+counted bs text = codes "ok " ++ (decimal (length bs) ++ (codes " " ++ text))
 
 -- how an answer is printed
 abbrev pub answer_text : Answer → List ℕ
 answer_text answers.Done = codes "ok"
 answer_text (answers.Number n) = codes "ok " ++ decimal n
-answer_text (answers.Bytes v) = codes "ok " ++ (decimal (length (vec_items v)) ++ (codes " " ++ bytes_text (vec_items v)))
+answer_text (answers.Bytes v) = counted (vec_items v) (bytes_text (vec_items v))

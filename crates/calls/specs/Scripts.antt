@@ -44,6 +44,19 @@ one name (Some n) =
     cond (bytes_eq name (codes "begin")) (Some (begin n))
     (cond (bytes_eq name (codes "free")) (Some (free n)) (cond (bytes_eq name (codes "units")) (Some (units n)) None))
 
+-- what two values make, where both are there
+abbrev pub of_two : {A B C : Type 0} → (A → B → C) → Option A → Option B → Option C
+of_two f None o = None
+of_two f (Some a) None = None
+of_two f (Some a) (Some b) = Some (f a b)
+
+-- what three values make, where all are there
+abbrev pub of_three : {A B C D : Type 0} → (A → B → C → D) → Option A → Option B → Option C → Option D
+of_three f None o p = None
+of_three f (Some a) None p = None
+of_three f (Some a) (Some b) None = None
+of_three f (Some a) (Some b) (Some c) = Some (f a b c)
+
 -- a name with a head and a count
 abbrev pub two : List ℕ → Option ℕ → Option ℕ → Option Said
 two name None o = None
@@ -53,17 +66,11 @@ two name (Some h) (Some n) =
 
 -- a head, an offset and a count
 abbrev pub reading : Option ℕ → Option ℕ → Option ℕ → Option Said
-reading None o p = None
-reading (Some h) None p = None
-reading (Some h) (Some at) None = None
-reading (Some h) (Some at) (Some n) = Some (read h at n)
+reading h at n = of_three read h at n
 
 -- a head, an offset and bytes
 abbrev pub writing : Option ℕ → Option ℕ → Option (List ℕ) → Option Said
-writing None o p = None
-writing (Some h) None p = None
-writing (Some h) (Some at) None = None
-writing (Some h) (Some at) (Some bs) = Some (write h at bs)
+writing h at bs = of_three write h at bs
 
 -- a name with a head, an offset, and a count or bytes
 abbrev pub three : List ℕ → List ℕ → List ℕ → List ℕ → Option Said
@@ -81,19 +88,27 @@ call_of (name ∷ a ∷ b ∷ c ∷ []) = three name a b c
 call_of (name ∷ a ∷ b ∷ c ∷ d ∷ ws) = None
 
 -- the call, or that there is none
-abbrev pub called : Option Said → Result (Option Said) NotACall
-called None = Err (record {})
-called (Some c) = Ok (Some c)
+abbrev pub called : {C N : Type 0} → N → Option C → Result (Option C) N
+called wrong None = Err wrong
+called wrong (Some c) = Ok (Some c)
 
--- what the words of a line say: no word says nothing
+-- what words say, by the call that they are: no word says nothing
+abbrev pub said_by : {C N : Type 0} → (List (List ℕ) → Option C) → N → List (List ℕ) → Result (Option C) N
+said_by call wrong [] = Ok None
+said_by call wrong (w ∷ ws) = called wrong (call (w ∷ ws))
+
+-- what the words of a line say
 abbrev pub line_of : List (List ℕ) → Result (Option Said) NotACall
-line_of [] = Ok None
-line_of (w ∷ ws) = called (call_of (w ∷ ws))
+line_of ws = said_by call_of (record {}) ws
 
 -- what a parsing returns: what the words say, or its fault
+abbrev pub SaysBy : {A C N : Type 0} → (A → C) → Result (Option A) (Fault N) → Result (Option C) N → Type 0
+SaysBy said (Ok c) o = o ≡ Ok (option_map said c)
+SaysBy said (Err f) o = Tells (λ w. w) f o
+
+-- the same of a call against a chain store
 abbrev pub Says : Result (Option Call) (Fault NotACall) → Result (Option Said) NotACall → Type 0
-Says (Ok c) o = o ≡ Ok (option_map asked c)
-Says (Err f) o = Tells (λ w. w) f o
+Says r o = SaysBy asked r o
 
 -- how it is printed that words are no call
 abbrev pub wrong_text : NotACall → List ℕ

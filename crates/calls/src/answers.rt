@@ -1,7 +1,7 @@
 //! What a store answers to a call.
 
 ghost use Rattle.std.specs.Prelude.{◌≡◌, ◌+◌, take, drop, Some, IfOk, MatchResult};
-ghost use Rattle.calls.specs.Answers.{Answered, reply, replied, bytes, answer_text, bytes_text};
+ghost use Rattle.calls.specs.Answers.{Answered, reply, replied, bytes, answer_text, bytes_text, hexed};
 ghost use Rattle.store.specs.Meaning.{bytes_of, due_copy};
 ghost use Rattle.store.specs.Refusals.{told, answer};
 
@@ -12,8 +12,8 @@ use std::fmt;
 use store::faults::StoreFault;
 use store::stores::ChainStore;
 
-// One byte more than any chain has, so a longer read is refused as one of this size is.
-const LONGEST: u64 = 16_777_217;
+// One byte more than any chain or stream has, so a longer read or write is refused as one of this size is.
+pub const LONGEST: u64 = 16_777_217;
 
 // No more bytes than these are printed one by one.
 const FEW: usize = 64;
@@ -26,26 +26,39 @@ pub enum Answer {
     Bytes(Vec<u8>),
 }
 
-// Bytes, as they are printed: in hexadecimal, and many of them by their hash.
+// Bytes in hexadecimal; no bytes as `-`.
 #[derive(Drop)]
-struct Shown<'a>(&'a [u8]);
+pub struct Hexed<'a>(pub &'a [u8]);
 
-impl fmt::Display for Shown<'_> {
-    ghost output = { λ s. Some (bytes_text s.0.now) };
+impl fmt::Display for Hexed<'_> {
+    ghost output = { λ h. Some (hexed h.0.now) };
 
     fn fmt<W: fmt::Write>(&self, f: &mut fmt::Formatter<W>) -> fmt::Result {
         if self.0.is_empty() {
             return write!(f, "-");
-        }
-        if self.0.len() > FEW {
-            let hash = fnv(self.0);
-            return write!(f, "fnv:{hash:016x}");
         }
         for byte in self.0 {
             let byte = *byte;
             write!(f, "{byte:02x}")?;
         }
         Ok(())
+    }
+}
+
+// Bytes, as they are printed: in hexadecimal, and many of them by their hash.
+#[derive(Drop)]
+pub struct Shown<'a>(pub &'a [u8]);
+
+impl fmt::Display for Shown<'_> {
+    ghost output = { λ s. Some (bytes_text s.0.now) };
+
+    fn fmt<W: fmt::Write>(&self, f: &mut fmt::Formatter<W>) -> fmt::Result {
+        if self.0.len() > FEW {
+            let hash = fnv(self.0);
+            return write!(f, "fnv:{hash:016x}");
+        }
+        let hexed = Hexed(self.0);
+        write!(f, "{hexed}")
     }
 }
 

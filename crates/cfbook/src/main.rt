@@ -7,14 +7,18 @@ use drawer::Drawer;
 use std::process::ExitCode;
 use std::{env, fs, io};
 
+#[cfg(test)]
+mod book_tests;
+mod books;
 mod chains;
 mod minis;
+mod scripts;
 mod table;
 #[cfg(test)]
 mod tests;
 
 const USAGE: &str =
-    "usage: cfbook TASK [FILE TASK FILE ..], TASK being links, drawer or mini (standard input without FILE)";
+    "usage: cfbook TASK [FILE TASK FILE ..], TASK being links, drawer, mini or edit (standard input without FILE)";
 
 // One task, on its whole input.
 fn task(rt: &HostRuntime, name: &str, text: &str) -> anyhow::Result<()> {
@@ -22,6 +26,7 @@ fn task(rt: &HostRuntime, name: &str, text: &str) -> anyhow::Result<()> {
         "links" => table::run(rt, text),
         "drawer" => chains::run(rt, &mut Drawer::new(), text),
         "mini" => chains::run(rt, &mut minis::fresh(), text),
+        "edit" => books::run(rt, text),
         _ => Err(anyhow!(USAGE)),
     }
 }

@@ -36,13 +36,14 @@ abbrev pub number_of : List ℕ → Option ℕ
 number_of w = cond (bytes_eq w (codes "END")) (Some 0xfffffffe) (cond (bytes_eq w (codes "FREE")) (Some 0xffffffff)
     (cond (hexed w) (numeral 16 (drop 2 w)) (numeral 10 w)))
 
--- the same of 32 bits
-abbrev pub within32 : Option ℕ → Option ℕ
-within32 None = None
-within32 (Some n) = cond (nat_le n 0xffffffff) (Some n) None
+-- a number that is at most so much
+abbrev pub within : ℕ → Option ℕ → Option ℕ
+within most None = None
+within most (Some n) = cond (nat_le n most) (Some n) None
 
+-- the same of 32 bits
 abbrev pub short_of : List ℕ → Option ℕ
-short_of w = within32 (number_of w)
+short_of w = within 0xffffffff (number_of w)
 
 -- the byte that two hexadecimal digits write
 abbrev pub byte_written : Option ℕ → Option ℕ → Option ℕ

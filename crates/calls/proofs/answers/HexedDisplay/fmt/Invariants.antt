@@ -4,7 +4,7 @@ use Rattle.std.proofs.Common.{take}
 use Rattle.std.specs.Fmt.{HasWritten, IsPlainFormatter}
 use Rattle.std.specs.List.{flat_map}
 use Rattle.calls.specs.Answers.{hex}
-use Rattle.calls.proofs.answers.ShownDisplay.fmt.Given as goal
+use Rattle.calls.proofs.answers.HexedDisplay.fmt.Given as goal
 
 abbrev pub invariant-loop-byte : goal.invariant-loop-byte
 invariant-loop-byte g l =
