@@ -1,0 +1,4 @@
+pub mod Chains
+pub mod Computed
+pub mod Resizes
+pub mod Sectors
