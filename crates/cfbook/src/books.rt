@@ -3,7 +3,7 @@
 ghost use Rattle.cfbook.specs.Made.{Made};
 ghost use Rattle.std.specs.Prelude.{map};
 
-use crate::scripts::each_line;
+use crate::scripts::Maker;
 use calls::faults::Fault as TextFault;
 use drawer::Drawer;
 use edits::answers::Answer;
@@ -28,8 +28,18 @@ fn make<H: Host>(
     Ok(Some(ask(heap, book, &edit)?))
 }
 
-// Runs a script against a workbook over a fresh drawer.
-pub fn run(rt: &HostRuntime, script: &str) -> anyhow::Result<()> {
-    let mut book = Workbook::new(Drawer::new());
-    each_line(rt, script, |heap, words| make(heap, &mut book, words))
+impl Maker for Workbook<Drawer> {
+    type Answer = Answer;
+
+    type Refusal = Fault;
+
+    type Wrong = NotACall;
+
+    fn make(
+        &mut self,
+        heap: Global,
+        words: &[&str],
+    ) -> Result<Option<Result<Answer, Fault>>, TextFault<NotACall>> {
+        make(heap, self, words)
+    }
 }

@@ -2,10 +2,12 @@
 
 #![tactic(auto)]
 
+use crate::scripts::each_line;
 use anyhow::anyhow;
 use drawer::Drawer;
 use std::process::ExitCode;
 use std::{env, fs, io};
+use workbook::Workbook;
 
 #[cfg(test)]
 mod book_tests;
@@ -24,9 +26,9 @@ const USAGE: &str =
 fn task(rt: &HostRuntime, name: &str, text: &str) -> anyhow::Result<()> {
     match name {
         "links" => table::run(rt, text),
-        "drawer" => chains::run(rt, &mut Drawer::new(), text),
-        "mini" => chains::run(rt, &mut minis::fresh(), text),
-        "edit" => books::run(rt, text),
+        "drawer" => each_line(rt, &mut Drawer::new(), text),
+        "mini" => each_line(rt, &mut minis::fresh(), text),
+        "edit" => each_line(rt, &mut Workbook::new(Drawer::new()), text),
         _ => Err(anyhow!(USAGE)),
     }
 }
