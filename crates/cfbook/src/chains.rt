@@ -1,5 +1,8 @@
 //! `cfbook drawer` and `cfbook mini`: a script of chain calls, for any chain store.
 
+ghost use Rattle.cfbook.specs.Made.{MadeOf};
+ghost use Rattle.std.specs.Prelude.{map};
+
 use crate::scripts::Maker;
 use calls::answers::{Answer, ask};
 use calls::faults::Fault;
@@ -15,7 +18,9 @@ fn make<S: ChainStore>(
     heap: Global,
     store: &mut S,
     words: &[&str],
-) -> Result<Option<Result<Answer, StoreFault>>, Fault<NotACall>> {
+) -> Result<Option<Result<Answer, StoreFault>>, Fault<NotACall>>
+    ensures { MadeOf (S.ChainStore.meaning store.old) S.ChainStore.LAYER (map (λ x. x.now) words.now) result (S.ChainStore.meaning store.new) }
+{
     let Some(call) = parse_words(heap, words)? else {
         return Ok(None);
     };
