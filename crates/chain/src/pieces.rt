@@ -56,8 +56,8 @@ struct Piece {
 }
 
 // How far a copy along a chain has come: from which offset on, the unit that it is at, and the bytes done.
-#[derive(Drop)]
-struct Cursor {
+#[derive(Clone, Copy)]
+pub struct Cursor {
     head: u32,
     at: usize,
     place: u32,

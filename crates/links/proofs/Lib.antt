@@ -7,6 +7,7 @@ pub mod Layings
 pub mod Lookups
 pub mod Members
 pub mod Paths
+pub mod Prefix
 pub mod Searches
 pub mod Stacks
 pub mod Tables

@@ -1,7 +1,7 @@
 -- A checked table and the stack of its FREE places: as it is meant, as the ghost fields have it, and over a change of a link.
 -- Assumes nothing.
 use Rattle.std.proofs.Common.{◌≡◌, ℕ, ◌<◌, ◌≤◌, Bool, true, cond, not, eqb, ltb, ◌≢◌, List, [], ◌∷◌, ◌++◌, length, set, replicate, is_ok, Ok, Err, Result, sym, refl, ap, ◌∙◌, inl, inr, ⊎_elim, arith}
-use Rattle.std.proofs.lemmas.List.{length-set, length_push, get_or-set_same, get_or-set_other, get_or_push, get_or_append_left, get_or-replicate, length-replicate}
+use Rattle.std.proofs.lemmas.List.{length-set, length-take, length_push, get_or-set_same, get_or-set_other, get_or_push, get_or_append_left, get_or-replicate, length-replicate}
 use Rattle.std.proofs.lemmas.List.Sums.{count_by-le-length}
 use Rattle.std.proofs.lemmas.Bool.{cases_eq, cases_lt, cases_Bool, both_ways, false≢true, lt-ltb, ltb-true, eqb-true, eq-eqb, and_parts, and_from, or_left, or_right, or_cases, not-true, not_from_false}
 use Rattle.links.specs.Links.{FREE, END, live, at, In, Apart, Checked}
@@ -139,7 +139,7 @@ pub kept_of : (s : Stacked) → Kept (links_of s.links) (links_of s.stack)
 kept_of s = kept_told _ _ s.checked s.once s.stacked
 
 pub few_of : (t : Links) → length (links_of t) ≤ 4096
-few_of t = t.few
+few_of t = omega (arith, length-take t.count t.links, t.few)
 
 -- a chain is cut off
 pub kept_cut : (L S L' : List ℕ) (p v : ℕ) → Kept L S → v ≡ at L p → v ≢ FREE → L' ≡ set L p END → Kept L' S

@@ -2,17 +2,18 @@
 
 ghost use Rattle.std.specs.Prelude.{◌≡◌, ◌-◌, ◌≤◌, ltb, [], ◌∷◌, ◌++◌, length, take, if◌then◌else◌, filter, nat_lt};
 ghost use Rattle.std.specs.List.{slice_get};
-ghost use Rattle.arrayvec.specs.ArrayVec.{array_vec_len};
 
 use crate::LinkTable;
-use arrayvec::ArrayVec;
+use crate::consts::{FREE_SECTOR, MOST_LINKS};
 use std::alloc::AllocError;
 
-// Its links lie in the value itself, so that a table needs no heap.
-#[derive(Drop)]
+// Its links are the first `count` of the array; what lies behind them means nothing. They lie in the value itself, so that a
+// table needs no heap.
+// Kept: an array with a count, as a table can be copied, and the kit's ArrayVec cannot.
 pub struct Links {
-    links: ArrayVec<u32, 4096>,
-    ghost few: { array_vec_len links ≤ 4096 },
+    links: [u32; MOST_LINKS as usize],
+    count: u32,
+    ghost few: { count ≤ 4096 },
 }
 
 impl Links {
@@ -23,7 +24,8 @@ impl Links {
         ensures { links_of result ≡ [] }
     {
         Links {
-            links: ArrayVec::new(),
+            links: [FREE_SECTOR; MOST_LINKS as usize],
+            count: 0,
         }
     }
 
@@ -31,7 +33,7 @@ impl Links {
     pub fn as_slice(&self) -> &[u32]
         ensures { result.now ≡ links_of self.now }
     {
-        self.links.as_slice()
+        &self.links[..self.count as usize]
     }
 
     // One link more, behind the others; or false, and no change, where there are 4,096.
@@ -40,7 +42,12 @@ impl Links {
         ensures told { result ≡ nat_lt (length (links_of self.old)) 4096 }
         ensures after { links_of self.new ≡ (if result then links_of self.old ++ link ∷ [] else links_of self.old) }
     {
-        self.links.try_push(link).is_ok()
+        if self.count >= MOST_LINKS {
+            return false;
+        }
+        self.links[self.count as usize] = link;
+        self.count += 1;
+        true
     }
 
     // The last link is taken off and told; nothing where there is none.
@@ -48,55 +55,76 @@ impl Links {
         ensures told { result ≡ slice_get (links_of self.old) (length (links_of self.old) - 1) }
         ensures after { links_of self.new ≡ take (length (links_of self.old) - 1) (links_of self.old) }
     {
-        self.links.pop()
+        if self.count == 0 {
+            return None;
+        }
+        self.count -= 1;
+        Some(self.links[self.count as usize])
     }
 
     // The first `count` links stay, or all where there are fewer.
     pub fn truncate(&mut self, count: u32)
         ensures { links_of self.new ≡ take count (links_of self.old) }
     {
-        self.links.truncate(count as usize);
+        if count < self.count {
+            self.count = count;
+        }
     }
 
     // The links below a bound stay, in their order.
     pub fn retain_below(&mut self, bound: u32)
         ensures { links_of self.new ≡ filter (λ x. ltb x bound) (links_of self.old) }
     {
-        self.links.retain(|link| *link < bound);
+        let mut kept = 0;
+        for place in 0..self.count {
+            let link = self.links[place as usize];
+            if link < bound {
+                self.links[kept as usize] = link;
+                kept += 1;
+            }
+        }
+        self.count = kept;
     }
 }
 
 // It asks for no memory, so it does not fail.
 impl Clone for Links {
-    ghost is_clone = { λ t u. u.links.items ≡ t.links.items };
+    ghost is_clone = { λ t u. u ≡ t };
 
     ghost is_infallible = { λ t. Unit {0} };
 
     fn clone(&self) -> Result<Links, AllocError> {
-        Ok(Links {
-            links: self.links.clone()?,
-        })
+        Ok(*self)
     }
 }
 
+impl Copy for Links {}
+
 impl LinkTable for Links {
-    ghost links = { λ t. t.links.items };
+    ghost use Rattle.std.proofs.Common.{arith};
+    ghost use Rattle.std.proofs.lemmas.List.{length-take};
+
+    ghost links = { λ t. take t.count t.links };
 
     fn count(&self) -> u32 {
-        self.links.len() as u32
+        self.count
     }
 
     fn get(&self, place: u32) -> Option<u32> {
-        self.links.get(place as usize).copied()
+        if place < self.count {
+            Some(self.links[place as usize])
+        } else {
+            None
+        }
     }
 
     fn set(&mut self, place: u32, link: u32) -> bool {
-        let Some(held) = self.links.get_mut(place as usize) else {
+        if place >= self.count {
             return false;
-        };
-        *held = link;
+        }
+        self.links[place as usize] = link;
         true
     }
 
-    ghost few = { λ t. t.few };
+    ghost few = { λ t. omega (arith, length-take t.count t.links, t.few) };
 }

@@ -17,7 +17,7 @@ pub const BLOCK: u32 = 512;
 
 // The first 4,096 links, and how many of all there are up to the last that is not FREE; 4,097 stands for all above.
 // Kept: one number, as an Option would be made and taken apart at each link, for a test that stands once.
-#[derive(Drop)]
+#[derive(Clone, Copy)]
 pub struct Gathered {
     pub links: Links,
     pub used: u32,

@@ -1,13 +1,23 @@
 -- Assumes nothing.
-use Rattle.std.proofs.Common.{◌≡◌, Err, sym, ap, ◌∙◌}
+use Rattle.std.proofs.Common.{◌≡◌, Err, sym, ap, ◌∙◌, arith}
 use Rattle.links.specs.Check.{settled}
 use Rattle.store.specs.Extents.{possible}
 use Rattle.minifat.specs.Table.{table_in}
 use Rattle.minifat.proofs.Sectors.{mapped_told}
 use Rattle.workbook.proofs.Carries.{steady}
-use Rattle.workbook.proofs.Found.{needs}
+use Rattle.workbook.proofs.Found.{needs, some_there}
 use Rattle.workbook.proofs.Looks.{can_be, wrong_units, right_units}
 use Rattle.workbook.proofs.opening.check_extent.Goals as goal
+
+pub div_ceil-requires : goal.div_ceil-requires
+div_ceil-requires g c =
+    let s = c.args.store.now.state.0 in
+    omega (
+      arith,
+      c.from-2.ensures,
+      rw c.units_in-found.ensures.left at c.unit-unit.ensures.told,
+      some_there g.H.ChainStore.MOST s (steady g.H.ChainStore.lawful c.args.store.now) c.of-home.result,
+    )
 
 pub returns-then-from-div_ceil-clause-told : goal.returns-then-from-div_ceil-clause-told
 returns-then-from-div_ceil-clause-told g c =
