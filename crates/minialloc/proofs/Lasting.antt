@@ -1,19 +1,16 @@
 -- What always holds of a mini store, shut or open; and what is known of one whose figures were asked for, and of a chain that
 -- was gone along. s is the state before, and z, the same, after.
 -- Assumes nothing.
-use Rattle.std.proofs.Common.{◌≡◌, ℕ, ◌≤◌, ◌&&◌, [], length, Some, None, Ok, Option, sym, refl, ap, ◌∙◌, subst, arith}
-use Rattle.std.proofs.lemmas.Bool.{le-ltb}
-use Rattle.links.specs.Links.{free, at}
+use Rattle.std.proofs.Common.{◌≡◌, ℕ, ◌≤◌, length, Some, Ok, sym, ap, ◌∙◌, subst}
 use Rattle.links.specs.Walk.{reach}
-use Rattle.links.specs.declared.stacked.Stacked.{Stacked}
-use Rattle.links.proofs.Stacks.{Kept, kept_told, kept_of, few_of}
+use Rattle.links.proofs.Stacks.{Kept, kept_of, few_of}
 use Rattle.store.specs.Meaning.{Hosted, Lawful}
 use Rattle.chain.specs.Webs.{Woven, stored, path_of}
 use Rattle.chain.proofs.Weaves.{Chained}
 use Rattle.rooms.specs.declared.Ground.{Ground}
 use Rattle.mini.specs.Mini.{ground_of}
 use Rattle.mini.proofs.Told.{Standing, standing, Along, along, along_few}
-use Rattle.minialloc.specs.States.{State, Shown, links_in, stack_in, state_in, figures_in, meant_in, web_in, Sound, SyncedIn}
+use Rattle.minialloc.specs.States.{State, Shown, state_in, figures_in, meant_in, web_in, Sound, SyncedIn}
 use Rattle.minialloc.specs.Looks.{Looks}
 use Rattle.minialloc.specs.declared.Found.{Found}
 use Rattle.minialloc.specs.declared.MiniStore.{MiniStore}
@@ -27,21 +24,9 @@ pub record Lasting (most : ℕ) (s : State) : Type 0 where
   pub few : length s.links ≤ 4096
   pub kept : Kept s.links s.stack
 
-pub few_in : (t : Option Stacked) → length (links_in t) ≤ 4096
-few_in None = omega arith
-few_in (Some t) = few_of t.links
-
-pub few_stack : (t : Option Stacked) → length (stack_in t) ≤ 4096
-few_stack None = omega arith
-few_stack (Some t) = few_of t.stack
-
-pub kept_in : (t : Option Stacked) → Kept (links_in t) (stack_in t)
-kept_in None = kept_told [] [] refl refl (λ p. sym (ap (λ b. b && free (at [] p)) (le-ltb p 0 (omega arith))))
-kept_in (Some t) = kept_of t
-
 abbrev pub lasting : {X : Type 0} {K : Ghosts X} → ((x : X) → Lawful K.MOST (K.meaning x)) → ((x : X) → Hosted (K.meaning x)) → (m : MiniStore X K)
-    → Lasting K.MOST (state_in (K.meaning m.host) m.table)
-lasting lawful hosted m = record { shown = m.state; lawful = lawful m.host; hosted = hosted m.host; few = few_in m.table; kept = kept_in m.table }
+    → Lasting K.MOST (state_in m.opened (K.meaning m.host) m.table)
+lasting lawful hosted m = record { shown = m.state; lawful = lawful m.host; hosted = hosted m.host; few = few_of m.table.links; kept = kept_of m.table }
 
 -- the figures were told
 pub record Based (most : ℕ) (s z : State) (g : Ground) : Type 0 where

@@ -1,6 +1,6 @@
 pub mod Copies
 pub mod Growing
 pub mod Lasting
-pub mod Lent
+pub mod Links
 pub mod Openings
 pub mod Shrinking

@@ -1,7 +1,7 @@
 -- The state of a mini store, and what its calls make of it: of the host's meaning, of the table and of the stack.
 -- Assumes nothing.
 use mathlib.Core.Path.{sym, ◌∙◌, contract'}
-use Rattle.std.specs.Prelude.{◌≡◌, ℕ, ◌+◌, ◌-◌, ◌<◌, ◌≤◌, Bool, true, if◌then◌else◌, List, [], length, is_some, Some, None, Ok, Err, count_by, min, Option, Result, slice_index}
+use Rattle.std.specs.Prelude.{◌≡◌, ℕ, ◌+◌, ◌-◌, ◌<◌, ◌≤◌, Bool, true, if◌then◌else◌, List, [], length, None, Ok, Err, count_by, min, Option, Result, slice_index}
 use Rattle.links.specs.Links.{free}
 use Rattle.links.specs.Stack.{place_after}
 use Rattle.links.specs.Stacked.{table_of, stack_of}
@@ -19,23 +19,15 @@ use Rattle.mini.specs.Adding.{Reserves}
 use Rattle.mini.specs.Mini.{ground_of, ground_if, Borne, web_of, mini, Synced}
 use Rattle.mini.specs.Steps.{took_mini, put_mini, ended_mini, gave_mini, Trims}
 
--- whether it is open, what its host means, its table and its stack; shut it has neither link nor place
+-- whether it is open, what its host means, its table and its stack; the table stays while it is shut
 pub record State : Type 0 where
   pub opened : Bool
   pub host : Store
   pub links : List ℕ
   pub stack : List ℕ
 
-abbrev pub links_in : Option Stacked → List ℕ
-links_in None = []
-links_in (Some t) = table_of t
-
-abbrev pub stack_in : Option Stacked → List ℕ
-stack_in None = []
-stack_in (Some t) = stack_of t
-
-abbrev pub state_in : Store → Option Stacked → State
-state_in s t = record { opened = is_some t; host = s; links = links_in t; stack = stack_in t }
+abbrev pub state_in : Bool → Store → Stacked → State
+state_in o s t = record { opened = o; host = s; links = table_of t; stack = stack_of t }
 
 -- the state s by a name: what a contract reads
 abbrev pub Shown : State → Type 0
@@ -43,6 +35,14 @@ Shown s = (x : State) × (x ≡ s)
 
 pub Shown-prop : (s : State) → IsProp (Shown s)
 Shown-prop s p q = sym (contract' p.1) ∙ contract' q.1
+
+-- the links that it shows: none while it is shut
+abbrev pub shown_links : State → List ℕ
+shown_links s = if s.opened then s.links else []
+
+-- the state as a layer above is shown it: shut, with neither link nor place
+abbrev pub as_shown : State → State
+as_shown s = record { opened = s.opened; host = s.host; links = shown_links s; stack = if s.opened then s.stack else [] }
 
 -- the figures that room is reckoned from; nothing where it is shut, or the host does not bear the table out
 abbrev pub figures_in : State → Option Ground

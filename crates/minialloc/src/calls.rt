@@ -2,7 +2,7 @@
 //! sector is taken, in which order sectors are added, what is trimmed.
 
 ghost use Rattle.minialloc.specs.States.{meant_in, roomier, Sound, SyncedIn, Writes, Prepared, BeginsChain, ExtendsChain, CutsChain, FreesChain, TrimsTo};
-ghost use Rattle.std.specs.Prelude.{◌≡◌, ◌+◌, Some, None, length};
+ghost use Rattle.std.specs.Prelude.{◌≡◌, ◌+◌, false, [], length};
 ghost use Rattle.links.specs.Links.{at};
 ghost use Rattle.store.specs.Meaning.{units_of, due_head, due_copy, due_extend, due_cut, read_into, wrote, extended, cut_to, freed, Begins};
 ghost use Rattle.store.specs.Refusals.{told, answer};
@@ -10,6 +10,7 @@ ghost use Rattle.store.specs.Refusals.{told, answer};
 use crate::MiniStore;
 use chain::linked::{begin, cut, lengthen, release};
 use chain::pieces::{read_chain, write_chain};
+use links::stacked::Stacked;
 use mini::LAYER;
 use mini::changes::{reserve, shorten_root};
 use rooms::Ground;
@@ -20,9 +21,13 @@ impl<H: Host> MiniStore<H> {
     // A mini store over a host, shut.
     pub fn new(host: H) -> MiniStore<H>
         ensures host { result.host ≡ host }
-        ensures shut { result.table ≡ None }
+        ensures shut { result.state.0 ≡ record { opened = false; host = H.ChainStore.meaning host; links = []; stack = [] } }
     {
-        MiniStore { host, table: None }
+        MiniStore {
+            host,
+            table: Stacked::new(),
+            opened: false,
+        }
     }
 
     // The units that can still be given.
@@ -125,10 +130,7 @@ impl<H: Host> MiniStore<H> {
         ensures trims { TrimsTo H.ChainStore.LAYER self.old.state.0 self.new.state.0 }
         ensures same { at self.new.state.0.links ≡ at self.old.state.0.links }
     {
-        let Some(table) = &mut self.table else {
-            return;
-        };
-        let gone = table.trim();
+        let gone = self.table.trim();
         if gone > 0 {
             shorten_root(&mut self.host, gone);
         }

@@ -21,7 +21,7 @@ impl<H: Host> ChainStore for MiniStore<H> {
 
     ghost MOST = { 4096 };
 
-    ghost lawful = { λ m. lawful_shown m.table (H.ChainStore.meaning m.host) m.state H.ChainStore.MOST (H.ChainStore.lawful m.host) };
+    ghost lawful = { λ m. lawful_shown m.opened (H.ChainStore.meaning m.host) m.table m.state H.ChainStore.MOST (H.ChainStore.lawful m.host) };
 
     ghost sound = { λ m. SyncedIn m.state.0 };
 

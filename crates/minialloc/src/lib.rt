@@ -1,7 +1,7 @@
 //! The mini store: chains of mini sectors of 64 bytes, linked by the MiniFAT, inside any host.
 //!
-//! It keeps its table, which it has while it is open, and asks the host for all else at every call. Where the host does not
-//! bear the table out, a mini store means what a shut one means, so no call asks anything of its caller.
+//! It keeps its table and whether it is open, and asks the host for all else at every call. Where the host does not bear the
+//! table out, a mini store means what a shut one means, so no call asks anything of its caller.
 
 #![tactic(auto)]
 
@@ -27,16 +27,17 @@ pub mod opening;
 pub mod shown;
 mod units;
 
-// A host, and while it is open the table with its stack.
+// A host, and the table with its stack, which stays while it is shut.
 #[derive(Drop)]
 pub struct MiniStore<H: Host> {
     host: H,
-    table: Option<Stacked>,
+    table: Stacked,
+    opened: bool,
     // Its state, by a name for contracts to read.
     // Kept: that the host is lawful and has entries is no ghost field, as the search then leaves `invariant_of-self` open in
     // each call that changes the host; the laws of the host say it where it is needed.
     // Kept: no `impl Model`, as its value would need a code, and what a host means is functions, which have none.
-    ghost state: { Shown (state_in (H.ChainStore.meaning host) table) } by { Shown-prop (state_in (H.ChainStore.meaning host) table) },
+    ghost state: { Shown (state_in opened (H.ChainStore.meaning host) table) } by { Shown-prop (state_in opened (H.ChainStore.meaning host) table) },
 }
 
 // A chain that was gone along once: its units and the place at a rank or its last, with the figures of the host.
@@ -52,15 +53,17 @@ impl<H: Host> MiniStore<H> {
         ensures told { result ≡ figures_in self.old.state.0 }
         ensures left { self.new.state.0 ≡ self.old.state.0 }
     {
-        let table = self.table.as_ref()?;
-        ground(&mut self.host, table.links().count())
+        if !self.opened {
+            return None;
+        }
+        ground(&mut self.host, self.table.links().count())
     }
 
     // How many places of the table are FREE.
     fn free_places(&self) -> u32
         ensures { result ≡ length self.now.state.0.stack }
     {
-        self.table.as_ref().map_or(0, |table| table.free())
+        self.table.free()
     }
 
     // The mini sectors that can still be given, over such figures: the FREE places, and the most that the table can grow by.
@@ -77,8 +80,7 @@ impl<H: Host> MiniStore<H> {
     {
         let no_head = Refusal::NotHead.at(LAYER, head);
         let ground = self.figures().ok_or(no_head)?;
-        let table = self.table.as_ref().ok_or(no_head)?;
-        let chain = survey(table.links(), head, rank).ok_or(no_head)?;
+        let chain = survey(self.table.links(), head, rank).ok_or(no_head)?;
         Ok(Found { chain, ground })
     }
 

@@ -6,7 +6,7 @@ ghost use Rattle.links.specs.Stacked.{stack_of};
 ghost use Rattle.mini.specs.Mini.{Synced};
 ghost use Rattle.minifat.specs.Table.{strictly, table_in, table_of};
 ghost use Rattle.minifat.specs.Told.{told_of};
-ghost use Rattle.std.specs.Prelude.{◌≡◌, true, false, [], IfOk};
+ghost use Rattle.std.specs.Prelude.{◌≡◌, true, false, IfOk};
 
 use crate::MiniStore;
 use links::stacked::Stacked;
@@ -29,19 +29,20 @@ impl<H: Host> MiniStore<H> {
     pub fn install(&mut self, table: Stacked)
         ensures { self.new.state.0 ≡ record { opened = true; host = self.old.state.0.host; links = table_in table; stack = stack_of table } }
     {
-        self.table = Some(table);
+        self.table = table;
+        self.opened = true;
     }
 
-    // Shuts: there is neither chain nor room until a table is installed.
+    // Shuts: there is neither chain nor room until a table is installed. The table that it has stays.
     pub fn shut(&mut self)
-        ensures { self.new.state.0 ≡ record { opened = false; host = self.old.state.0.host; links = []; stack = [] } }
+        ensures { self.new.state.0 ≡ record { opened = false; host = self.old.state.0.host; links = self.old.state.0.links; stack = self.old.state.0.stack } }
     {
-        self.table = None;
+        self.opened = false;
     }
 
     pub fn is_open(&self) -> bool
         ensures { result ≡ self.now.state.0.opened }
     {
-        self.table.is_some()
+        self.opened
     }
 }

@@ -22,6 +22,7 @@ pub mod Refitting
 pub mod Rests
 pub mod Rooms
 pub mod Searches
+pub mod Showing
 pub mod Sights
 pub mod Sorting
 pub mod Strays

@@ -36,7 +36,7 @@ module _ {X : Type 0} {K : Ghosts X} (lawful : (x : X) → Lawful K.MOST (K.mean
   okm = steady lawful b
 
   mini : Lawful 4096 (meant_in s)
-  mini = lawful_shown a.table (K.meaning a.host) a.state K.MOST (lawful a.host)
+  mini = lawful_shown a.opened (K.meaning a.host) a.table a.state K.MOST (lawful a.host)
 
   po : PlanOf s e n p
   po = subst (λ i. PlanOf i e n p) found plan

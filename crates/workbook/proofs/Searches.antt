@@ -1,6 +1,7 @@
 -- The loops that search for the first fault.
 -- Assumes nothing.
-use Rattle.std.proofs.Common.{◌≡◌, ℕ, ◌<◌, ◌≤◌, Some, None, Ok, Err, Option, Result, sym, ap, ◌∙◌, arith}
+use Rattle.std.proofs.Common.{◌≡◌, ℕ, ◌+◌, ◌<◌, ◌≤◌, Some, None, Ok, Err, Option, Result, sym, ap, ◌∙◌, ⊎_elim, arith}
+use Rattle.std.proofs.lemmas.Bool.{cases_lt}
 use Rattle.std.specs.Option.{option_or}
 use Rattle.links.specs.Check.{first_of, settled}
 use Rattle.links.proofs.Searches.{first_none, first_some, none_settled, some_settled}
@@ -21,6 +22,12 @@ module _ (F : State → ℕ → Option Faulted) (s x : State) (k : ℕ) (so : Se
 
   pub searched_all : (n : ℕ) → n ≤ k → ◌≡◌ {A = Result (Unit {0}) Faulted} (Ok tt) (settled (first_of (F s) n 0) tt)
   searched_all n l = ap (λ o. settled o tt) (sym (first_none (F s) n 0 (λ j m. so.none j (omega arith))))
+
+  -- and on to the next id
+  pub searched_on : (y : State) → y ≡ x → ◌≡◌ {A = Result (Unit {0}) Faulted} (Ok tt) (settled (F x k) tt) → Searched F s y (k + 1)
+  searched_on y e t =
+      let here : F s k ≡ None = ap (λ z. F z k) (sym so.left) ∙ (none_settled (F x k) tt tt (sym t)).0 in
+      record { left = e ∙ so.left; none = λ j l. ⊎_elim (λ q. so.none j q) (λ q. ap (F s) (omega (arith, l, q)) ∙ here) (cases_lt j k) }
 
 -- a search after one that found nothing
 pub then_settled : (o p : Option Faulted) (r : Result (Unit {0}) Faulted) → ◌≡◌ {A = Result (Unit {0}) Faulted} (Ok tt) (settled o tt) → r ≡ settled p tt → r ≡ settled (option_or o p) tt

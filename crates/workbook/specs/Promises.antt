@@ -2,15 +2,15 @@
 -- Assumes nothing.
 use Rattle.store.specs.declared.stores.ChainStore.{Ghosts}
 use Rattle.store.specs.Meaning.{Store}
-use Rattle.minialloc.specs.States.{State}
+use Rattle.minialloc.specs.States.{State, as_shown}
 use Rattle.workbook.specs.declared.Workbook.{Workbook}
 use Rattle.workbook.specs.Events.{Event}
 use Rattle.workbook.specs.Laws.{Called, Made}
 
 module _ {X : Type 0} {K : Ghosts X} where
-  -- host, table and stack
+  -- host, table and stack, as the mini store shows them
   abbrev pub state_of : Workbook X K → State
-  state_of w = w.store.state.0
+  state_of w = as_shown w.store.state.0
 
   -- that it is made over the host m
   abbrev pub Begins : Store → Workbook X K → Type 0

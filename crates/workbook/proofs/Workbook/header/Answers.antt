@@ -5,7 +5,7 @@ use Rattle.workbook.proofs.Promises.{promise}
 use Rattle.workbook.proofs.Workbook.header.Goals as goal
 
 pub returns : goal.returns
-returns g c = promise g.H.ChainStore.lawful g.met.H.Host.hosted g.H.ChainStore.LAYER c.words.new.self c.args.self.now.store.state.0 _ (c.words.ensures.told, c.words.ensures.left)
+returns g c = promise g.H.ChainStore.lawful g.met.H.Host.hosted g.H.ChainStore.LAYER c.args.self.now c.words.new.self _ (c.words.ensures.told, c.words.ensures.left)
 
 pub invariant_of-self : goal.invariant_of-self
 invariant_of-self g c = record { whole = subst Holds (sym c.words.ensures.left) c.args.self.now.whole }

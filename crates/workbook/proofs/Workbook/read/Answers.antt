@@ -15,7 +15,7 @@ pub invariant_of-self : goal.invariant_of-self
 invariant_of-self g c = record { whole = subst Holds (sym (c.read.ensures.left ∙ c.stream.ensures.left)) c.args.self.now.whole }
 
 pub returns-in_err-entry : goal.returns-in_err-entry
-returns-in_err-entry g c = promise g.H.ChainStore.lawful g.met.H.Host.hosted g.H.ChainStore.LAYER c.stream.new.self.store _ _ (
+returns-in_err-entry g c = promise g.H.ChainStore.lawful g.met.H.Host.hosted g.H.ChainStore.LAYER c.args.self.now c.stream.new.self.store _ (
   passed (λ n. n) _ _ (err_from_is_err_and c.from_residual.result c.from_residual.ensures.1) ∙ ap (λ x. count_of x c.args.at (length c.args.out.now)) c.in_err-entry.ensures.told,
   ap (λ x. buffer_of (seen c.args.self.now.store.state.0) x c.args.at c.args.out.now) c.in_err-entry.ensures.told,
   c.in_err-entry.ensures.left,
@@ -36,13 +36,13 @@ returns-in_ok-read g c =
     let told = ap Ok m ∙ ap (λ x. count_of x c.args.at (length c.args.out.now)) c.in_ok-entry.ensures.told in
     let out = ap (λ xs. xs ++ drop n c.args.out.now) new ∙ ap (λ k. take k (drop c.args.at (bytes_in v e)) ++ drop k c.args.out.now) m
     ∙ ap (λ x. buffer_of v x c.args.at c.args.out.now) c.in_ok-entry.ensures.told in
-    promise g.H.ChainStore.lawful g.met.H.Host.hosted g.H.ChainStore.LAYER c.read.new.store _ _ (told, out, c.in_ok-read.ensures.left ∙ c.stream.ensures.left)
+    promise g.H.ChainStore.lawful g.met.H.Host.hosted g.H.ChainStore.LAYER c.args.self.now c.read.new.store _ (told, out, c.in_ok-read.ensures.left ∙ c.stream.ensures.left)
 
 pub returns-else-count-gt0 : goal.returns-else-count-gt0
 returns-else-count-gt0 g c =
     let m = c.min-count.ensures ∙ ap (λ x. min x (length c.args.out.now)) c.saturating_sub.ensures in
     let none : 0 ≡ min (c.in_ok-entry.entry.length - c.args.at) (length c.args.out.now) = omega (arith, m, c.if-count-gt0.false) in
-    promise g.H.ChainStore.lawful g.met.H.Host.hosted g.H.ChainStore.LAYER c.stream.new.self.store _ _ (
+    promise g.H.ChainStore.lawful g.met.H.Host.hosted g.H.ChainStore.LAYER c.args.self.now c.stream.new.self.store _ (
       ap Ok m ∙ ap (λ x. count_of x c.args.at (length c.args.out.now)) c.in_ok-entry.ensures.told,
       ap (λ k. take k (drop c.args.at (bytes_in (seen c.args.self.now.store.state.0) c.in_ok-entry.entry)) ++ drop k c.args.out.now) none
           ∙ ap (λ x. buffer_of (seen c.args.self.now.store.state.0) x c.args.at c.args.out.now) c.in_ok-entry.ensures.told,

@@ -14,7 +14,7 @@ invariant_of-self g c = record { whole = subst Holds (sym (c.mini_room-mini.ensu
 pub returns-then-not-is_open : goal.returns-then-not-is_open
 returns-then-not-is_open g c =
     let s = c.args.self.now.store.state.0 in
-    promise g.H.ChainStore.lawful g.met.H.Host.hosted g.H.ChainStore.LAYER c.args.self.now.store _ _
+    promise g.H.ChainStore.lawful g.met.H.Host.hosted g.H.ChainStore.LAYER c.args.self.now c.args.self.now.store _
     (ap Err c.refused.ensures ∙ ap (λ b. row (not b) (refuse 1 0 None) (Ok (s.host.room, (meant_in s).room))) c.if-not-is_open.ensures, refl)
 
 pub returns : goal.returns
@@ -22,5 +22,5 @@ returns g c =
     let s = c.args.self.now.store.state.0 in
     let mini = c.mini_room-mini.ensures.told ∙ ap (λ (x : State). (meant_in x).room) c.host_room-host.ensures.left in
     let rooms : ◌≡◌ {A = Result (ℕ × ℕ) Faulted} (Ok (c.host_room-host.result, c.mini_room-mini.result)) (Ok (s.host.room, (meant_in s).room)) = (λ i. Ok (c.host_room-host.ensures.told i, mini i)) in
-    promise g.H.ChainStore.lawful g.met.H.Host.hosted g.H.ChainStore.LAYER c.mini_room-mini.new.self _ _
+    promise g.H.ChainStore.lawful g.met.H.Host.hosted g.H.ChainStore.LAYER c.args.self.now c.mini_room-mini.new.self _
     (rooms ∙ ap (λ b. row (not b) (refuse 1 0 None) (Ok (s.host.room, (meant_in s).room))) c.if-not-is_open.ensures, c.mini_room-mini.ensures.left ∙ c.host_room-host.ensures.left)

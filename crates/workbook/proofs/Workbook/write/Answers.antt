@@ -15,7 +15,7 @@ returns-in_err-entry g c =
     let s = c.args.self.now.store.state.0 in
     let ys = c.args.src.now in
     let r = told_of (λ x. x) c.from_residual.result in
-    promise g.H.ChainStore.lawful g.met.H.Host.hosted layer c.stream.new.self.store s _
+    promise g.H.ChainStore.lawful g.met.H.Host.hosted layer c.args.self.now c.stream.new.self.store _
     (subst (λ x. WrittenTo most layer s c.args.id c.args.at ys (write_of s c.args.id c.args.at (length ys) x) r c.stream.new.self.store.state.0) c.in_err-entry.ensures.told
     (passed (λ x. x) _ _ (err_from_is_err_and c.from_residual.result c.from_residual.ensures.1), c.in_err-entry.ensures.left))
 
@@ -23,7 +23,7 @@ pub returns-then-at-entry : goal.returns-then-at-entry
 returns-then-at-entry g c =
     let st = c.args.self.now.store in
     let a = meant_by g.H.ChainStore.lawful g.met.H.Host.hosted st in
-    promise g.H.ChainStore.lawful g.met.H.Host.hosted g.H.ChainStore.LAYER c.stream.new.self.store st.state.0 _
+    promise g.H.ChainStore.lawful g.met.H.Host.hosted g.H.ChainStore.LAYER c.args.self.now c.stream.new.self.store _
     (past_is g.H.ChainStore.MOST g.H.ChainStore.LAYER st.state.0 c.stream.new.self.store.state.0 a c.args.self.now.whole c.args.id c.in_ok-entry.entry c.in_ok-entry.ensures.told _
     c.args.at c.args.src.now c.if-at-entry.true (ap Err c.refused.ensures) c.in_ok-entry.ensures.left)
 
@@ -35,7 +35,7 @@ returns g c =
     let z = c.fill.new.self.store in
     let r = told_of (λ x. x) c.fill.result in
     let a = meant_by g.H.ChainStore.lawful g.met.H.Host.hosted st in
-    promise g.H.ChainStore.lawful g.met.H.Host.hosted layer z st.state.0 _
+    promise g.H.ChainStore.lawful g.met.H.Host.hosted layer c.args.self.now z _
     (written_is most layer st.state.0 z.state.0 a c.args.self.now.whole c.args.id c.in_ok-entry.entry c.in_ok-entry.ensures.told r
     c.args.at c.max-len.result c.args.src.now (omega (arith, c.if-at-entry.false)) (c.max-len.ensures ∙ ap (max c.in_ok-entry.entry.length) c.saturating_add.ensures)
     (subst (λ x. Filling most layer x c.args.id c.max-len.result c.args.at c.args.src.now r z.state.0) c.stream.ensures.left c.fill.ensures))

@@ -13,6 +13,11 @@ returns-in_err-free g c =
     by_freeing g.H.ChainStore.MOST g.H.ChainStore.LAYER c.args.plan _ _ _ c.if-plan-eq0.true (omega (arith, c.if-plan-gt0.true))
     (rw (q.1, q.2) (Err (refused_by c.in_err-free.field-0.0), _, steady g.H.ChainStore.lawful c.free.new.store, (c.in_err-free.ensures.told, c.in_err-free.ensures.left), (refl, refl)))
 
+pub returns-in_ok-free : goal.returns-in_ok-free
+returns-in_ok-free g c =
+    by_freeing g.H.ChainStore.MOST g.H.ChainStore.LAYER c.args.plan _ _ _ c.if-plan-eq0.true (omega (arith, c.if-plan-gt0.true))
+    (Ok c.in_ok-free.field-0, _, steady g.H.ChainStore.lawful c.free.new.store, (c.in_ok-free.ensures.told, c.in_ok-free.ensures.left), (refl, refl))
+
 pub returns-in_err-stretch : goal.returns-in_err-stretch
 returns-in_err-stretch g c =
     let q = err_from_is_err_and c.from_residual-in_err-stretch.result c.from_residual-in_err-stretch.ensures.1 in

@@ -6,8 +6,12 @@ use Rattle.minifat.specs.Table.{table_in}
 use Rattle.minifat.specs.Told.{Faulted}
 use Rattle.minialloc.specs.States.{State}
 use Rattle.workbook.specs.Opening.{stream_fault}
-use Rattle.workbook.proofs.Searches.{searched_some, searched_all}
+use Rattle.workbook.proofs.Searches.{searched_on, searched_some, searched_all}
 use Rattle.workbook.proofs.opening.check_streams.Goals as goal
+
+pub loop-id-preserved : goal.loop-id-preserved
+loop-id-preserved g c =
+    searched_on (λ s. stream_fault s g.H.ChainStore.LAYER (table_in c.args.table.now)) _ _ _ c.loop-id.invariant _ c.in_ok-check_stream.ensures.left c.in_ok-check_stream.ensures.told
 
 pub returns-in_err-check_stream-clause-told : goal.returns-in_err-check_stream-clause-told
 returns-in_err-check_stream-clause-told g c =
