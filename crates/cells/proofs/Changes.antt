@@ -10,7 +10,7 @@ use Rattle.cells.proofs.Seeks.{note, inside, unit_found, unit_there}
 use Rattle.cells.proofs.Paths.{Sound, IsPath, one_note, path_is, path_only}
 
 -- a unit that notes the rank r, where one notes the next
-before : (N : List (Option Note)) (u h r : ℕ) → Down N → note_at N u ≡ Some (note h (r + 1)) → (v : ℕ) × (note_at N v ≡ Some (note h r))
+pub before : (N : List (Option Note)) (u h r : ℕ) → Down N → note_at N u ≡ Some (note h (r + 1)) → (v : ℕ) × (note_at N v ≡ Some (note h r))
 before N u h r d e = go (unit_at N h r) refl (d u h r e)
   where
     go : (o : Option ℕ) → unit_at N h r ≡ o → is_some o ≡ true → (v : ℕ) × (note_at N v ≡ Some (note h r))

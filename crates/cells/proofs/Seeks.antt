@@ -1,6 +1,6 @@
 -- What a search for a unit finds.
 -- Assumes nothing.
-use Rattle.std.proofs.Common.{◌≡◌, ℕ, ◌<◌, Bool, true, eqb, List, length, get_or, Some, None, Option, sym, refl, ap, ◌∙◌, ⊎_elim, arith}
+use Rattle.std.proofs.Common.{◌≡◌, ℕ, ◌<◌, Bool, true, eqb, List, length, get_or, is_none, Some, None, Option, sym, refl, ap, ◌∙◌, ⊎_elim, arith}
 use Rattle.std.specs.List.{position, position_or_len}
 use Rattle.std.proofs.lemmas.List.{get_or_past}
 use Rattle.std.proofs.lemmas.Option.{none-some}
@@ -22,8 +22,12 @@ notes_same : (h r : ℕ) (o : Option Note) → notes h r o ≡ true → o ≡ So
 notes_same h r None e = absurd (false≢true e)
 notes_same h r (Some n) e = let p = and_parts (eqb n.head h) (eqb n.rank r) e in rw (sym (eqb-true n.head h p.0), sym (eqb-true n.rank r p.1)) refl
 
-notes_yes : (h r : ℕ) → notes h r (Some (note h r)) ≡ true
+pub notes_yes : (h r : ℕ) → notes h r (Some (note h r)) ≡ true
 notes_yes h r = and_from _ _ (eq-eqb h h refl) (eq-eqb r r refl)
+
+-- a unit that notes nothing is a free one
+pub is_free : (N : List (Option Note)) (u : ℕ) → note_at N u ≡ None → is_none (note_at N u) ≡ true
+is_free N u e = ap is_none e
 
 -- what passes at some place is found
 pub position_some : {X : Type 0} (p : X → Bool) (xs : List X) (i : ℕ) (d : X) → i < length xs → p (get_or xs i d) ≡ true → (k : ℕ) × (position p xs ≡ Some k)

@@ -31,7 +31,7 @@ module _ (N : List (Option Note)) (h : ℕ) where
   pub path_apart : Apart (path N h)
   path_apart = ranked_apart N h (path N h) (path_is N h).ranked
 
-  unit_small : (x : ℕ) → In x (path N h) → x < length N
+  pub unit_small : (x : ℕ) → In x (path N h) → x < length N
   unit_small x i = let e = notes_head x i in inside N x (note h e.0) e.1
 
   pub path_first : Sound N → 0 < length (path N h) → get_or (path N h) 0 0 ≡ h

@@ -20,7 +20,7 @@ told_by layer place (Err r) = Err (record { number = number_of r; layer = layer;
 abbrev pub Tells : Cells → ℕ → (Store → ℕ → Option Refused) → Result (Unit {0}) Refusal → Type 0
 Tells c place due r = (n : Notes) (layer : ℕ) → told_by layer place r ≡ answer (due (meant c n) layer) tt
 
--- what is due for a copy of the bytes up to end: as of a store, but that no bytes can be copied of what is no head too
+-- what is due for a copy of the bytes up to end: as of a store, but that none up to 0 can be copied of what is no head too
 abbrev pub due_bytes : Store → ℕ → ℕ → ℕ → Option Refused
 due_bytes m layer h end = cond (end == 0) None (due_copy m layer h end)
 

@@ -43,8 +43,9 @@ impl Cells {
     fn ranks(&self, head: u32) -> u32
         ensures { result ≡ ranks self.now.notes head }
     {
-        (0..UNITS)
-            .take_while(|rank| self.find(head, *rank).is_some())
+        self.notes
+            .iter()
+            .filter(|note| note.is_some_and(|n| n.head == head))
             .count() as u32
     }
 

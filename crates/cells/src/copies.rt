@@ -37,7 +37,7 @@ impl Units for Cells {
     }
 }
 
-// Whether a copy that begins there is of no bytes.
+// Whether a copy is of no bytes, at offset 0.
 fn is_nothing(at: u64, count: usize) -> bool
     ensures { result ≡ (at + count == 0) }
 {
@@ -58,8 +58,8 @@ impl Cells {
         }
     }
 
-    // Fills the buffer with the bytes of a chain from an offset on; no change where the chain has them not. No bytes are had
-    // of what is no head, too.
+    // Fills the buffer with the bytes of a chain from an offset on; no change where the chain has them not. No bytes at offset
+    // 0 are had of what is no head, too.
     pub fn read(&mut self, head: u32, at: u64, out: &mut [u8]) -> Result<(), Refusal>
         ensures told { Tells self.old head (λ m layer. due_bytes m layer head (at + length out.old)) result }
         ensures out { (n : Notes) (layer : ℕ) → out.new ≡ read_into (meant self.old n) layer head at out.old }
@@ -73,8 +73,8 @@ impl Cells {
         Ok(())
     }
 
-    // Lays bytes over those of a chain from an offset on; no change where the chain has not so many. No bytes can be laid
-    // over what is no head, too.
+    // Lays bytes over those of a chain from an offset on; no change where the chain has not so many. No bytes at offset 0 can
+    // be laid over what is no head, too.
     pub fn write(&mut self, head: u32, at: u64, src: &[u8]) -> Result<(), Refusal>
         ensures told { Tells self.old head (λ m layer. due_bytes m layer head (at + length src.now)) result }
         ensures left { (n : Notes) (layer : ℕ) → meant self.new n ≡ wrote (meant self.old n) layer head at src.now }

@@ -1,10 +1,10 @@
 -- How many places chains have together.
 -- Assumes nothing.
-use Rattle.std.proofs.Common.{◌≡◌, ℕ, suc, ◌+◌, ◌<◌, ◌≤◌, Bool, true, false, cond, not, ◌≢◌, List, [], ◌∷◌, length, set, sum_by, count_by, refl, inl, inr, ⊎_elim, arith}
+use Rattle.std.proofs.Common.{◌≡◌, ℕ, suc, ◌+◌, ◌<◌, ◌≤◌, Bool, true, false, cond, not, ◌≢◌, List, [], ◌∷◌, length, set, sum_by, count_by, sym, refl, ap, ◌∙◌, inl, inr, ⊎_elim, arith}
 use Rattle.std.specs.List.{flat_map}
-use Rattle.std.proofs.lemmas.List.{get_or-set_other, get_or_past}
+use Rattle.std.proofs.lemmas.List.{get_or-set_same, get_or-set_other, get_or_past, length-set, set_past}
 use Rattle.std.proofs.lemmas.List.Sums.{sum_by-set, sum_by-cons, count_by-le-length}
-use Rattle.std.proofs.lemmas.Bool.{cases_lt, ne_eqb}
+use Rattle.std.proofs.lemmas.Bool.{cases_lt, ne_eqb, eq-eqb, false≢true}
 use Rattle.links.specs.Links.{FREE, free, live, at, In, Apart, Path, Checked, Head}
 use Rattle.links.proofs.Members.{apart_append, in_joined, length-joined}
 use Rattle.links.proofs.Paths.{used, same_head, no_repeat}
@@ -21,6 +21,42 @@ live_count L (p ∷ ps) h u =
     let s = sum_by-set (λ x. cond (live x) 1 0) L p FREE FREE (inside L p (u p (inl refl))) in
     let t = rw (ne_eqb (at L p) FREE (u p (inl refl))) at s in
     omega arith
+
+-- none of whose links is not FREE
+none_live : (L : List ℕ) → ((x : ℕ) → at L x ≢ FREE → ⊥) → count_by live L ≡ 0
+none_live [] n = refl
+none_live (y ∷ L) n = rw (sum_by-cons (λ x. cond (live x) 1 0) y L, none_live L (λ x m. n (suc x) m)) (go (free y) refl)
+  where
+    go : (t : Bool) → free y ≡ t → cond (not t) 1 0 + 0 ≡ 0
+    go true e = refl
+    go false e = absurd (n 0 (λ f. false≢true (sym e ∙ eq-eqb y FREE f)))
+
+-- a place that is not FREE once the link at p is made FREE is another one
+not_wiped : (L : List ℕ) (p x : ℕ) → at (set L p FREE) x ≢ FREE → x ≢ p
+not_wiped L p x m e = m (rw e (⊎_elim
+    (λ l. get_or-set_same L p FREE FREE l)
+    (λ l. get_or_past (set L p FREE) p FREE (omega (arith, length-set L p FREE)))
+    (cases_lt p (length L))))
+
+among_rest : (p x : ℕ) (ps : List ℕ) → In x (p ∷ ps) → x ≢ p → In x ps
+among_rest p x ps (inl e) n = absurd (n e)
+among_rest p x ps (inr i) n = i
+
+at_most_one : (t : Bool) → cond t 1 0 ≤ 1
+at_most_one true = omega arith
+at_most_one false = omega arith
+
+-- places that have all whose links are not FREE among them are as many at least
+pub live_among : (L ps : List ℕ) → ((x : ℕ) → at L x ≢ FREE → In x ps) → count_by live L ≤ length ps
+live_among L [] h = omega (arith, none_live L (λ x m. h x m))
+live_among L (p ∷ ps) h =
+    let rest = live_among (set L p FREE) ps (λ x m.
+    let o = not_wiped L p x m in
+    among_rest p x ps (h x (λ e. m (get_or-set_other L p x FREE FREE o ∙ e))) o) in
+    ⊎_elim
+    (λ l. omega (arith, sum_by-set (λ x. cond (live x) 1 0) L p FREE FREE l, rest, at_most_one (live (at L p))))
+    (λ l. omega (arith, rest, ap (count_by live) (set_past L p FREE l)))
+    (cases_lt p (length L))
 
 free-live : (L : List ℕ) → count_by live L + count_by free L ≡ length L
 free-live [] = refl

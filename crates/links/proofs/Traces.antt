@@ -1,9 +1,10 @@
 -- A walk computes the path, and a test decides what is a head.
 -- Assumes nothing.
 use Rattle.std.proofs.Common.{◌≡◌, ℕ, zero, suc, ◌+◌, ◌-◌, ◌<◌, ◌≤◌, min, Bool, true, false, cond, not, eqb, ltb, ◌≢◌, ◌||◌, ◌⊎◌, ◌↔◌, List, [], ◌∷◌, length, Some, None, Option, sym, refl, ap, ◌∙◌, inl, inr, ⊎_elim, arith}
-use Rattle.std.specs.List.{slice_get, list_any, range_with_len}
+use Rattle.std.specs.List.{slice_get, fold, range_with_len}
 use Rattle.std.specs.Bool.{then_some}
 use Rattle.std.specs.Option.{option_map}
+use Rattle.std.proofs.Math.Bool.{or_assoc, or-false}
 use Rattle.std.proofs.lemmas.Bool.{cases_lt, and_left, and_right, not_from_true, eqb-true, eqb-false, eq-eqb, ne_eqb, ltb-true, lt-ltb, le-ltb, and_parts, and_from, or_parts, or_from, not-true, not_from_false}
 use Rattle.links.specs.Links.{END, POINTERS, at, Path, Head, Units}
 use Rattle.links.specs.declared.walks.Surveyed.{Surveyed}
@@ -99,15 +100,17 @@ left_more L most done v w next s n z l e h =
       ends = rw f.1 (sym (last_more (most - (done + 1)) L v w f.0) ∙ rw k at h.ends);
     }
 
--- a link is found by going over the places
-any_from : (p a : ℕ) (f : ℕ → ℕ) (L : List ℕ) → ((k : ℕ) → f (a + k) ≡ at L k) → list_any (λ k. eqb (f k) p) (range_with_len a (length L)) ≡ holds p L
-any_from p a f [] h = refl
-any_from p a f (x ∷ L) h =
-    ap (λ y. eqb y p || list_any (λ k. eqb (f k) p) (range_with_len (a + 1) (length L))) (ap f (omega arith) ∙ h 0)
-    ∙ ap (λ b. eqb x p || b) (any_from p (a + 1) f L (λ k. ap f (omega arith) ∙ h (suc k)))
+-- a link is found by going over all places
+fold_from : (p a : ℕ) (f : ℕ → ℕ) (L : List ℕ) (b : Bool) → ((k : ℕ) → f (a + k) ≡ at L k)
+    → fold (λ met k. met || eqb (f k) p) b (range_with_len a (length L)) ≡ b || holds p L
+fold_from p a f [] b h = sym (or-false b)
+fold_from p a f (x ∷ L) b h =
+    ap (λ y. fold (λ met k. met || eqb (f k) p) (b || eqb y p) (range_with_len (a + 1) (length L))) (ap f (omega arith) ∙ h 0)
+    ∙ fold_from p (a + 1) f L (b || eqb x p) (λ k. ap f (omega arith) ∙ h (suc k))
+    ∙ or_assoc b (eqb x p) (holds p L)
 
-pub any_at : (L : List ℕ) (p : ℕ) → list_any (λ k. eqb (at L k) p) (range_with_len 0 (length L)) ≡ holds p L
-any_at L p = any_from p 0 (at L) L (λ k. ap (at L) (omega arith))
+pub fold_at : (L : List ℕ) (p : ℕ) → fold (λ met k. met || eqb (at L k) p) false (range_with_len 0 (length L)) ≡ holds p L
+fold_at L p = fold_from p 0 (at L) L false (λ k. ap (at L) (omega arith))
 
 -- a walk from p as long as the table met n places and stopped at s
 pub record Whole (L : List ℕ) (p n s : ℕ) : Type 0 where

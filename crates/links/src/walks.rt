@@ -59,11 +59,14 @@ pub(crate) fn link_or_free<T: LinkTable>(table: &T, place: u32) -> u32
     table.get(place).unwrap_or(FREE_SECTOR)
 }
 
-// Whether a place of the table has this link.
+// Whether a place of the table has this link. All places are gone over, as a loop that leaves early compares one at a time.
 fn has_link<T: LinkTable>(table: &T, link: u32) -> bool
     ensures { result ≡ holds link (T.links table.now) }
 {
-    (0..table.count()).any(|place| link_or_free(table, place) == link)
+    (0..table.count()).fold(
+        false,
+        |met, place| met | (link_or_free(table, place) == link),
+    )
 }
 
 // Goes along the chain of a head once: tells its units, and the place at a rank, or its last place where it is shorter.
