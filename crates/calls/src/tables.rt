@@ -2,7 +2,7 @@
 
 ghost use Rattle.calls.specs.Tables.{pushed, words_into, table_of, Reads, Stops, Lists, word_text, wrong_text, listing_text};
 ghost use Rattle.links.specs.Held.{links_of};
-ghost use Rattle.std.specs.Prelude.{◌≡◌, map, Some, Ok, Err, MatchResult, [], ◌∷◌};
+ghost use Rattle.std.specs.Prelude.{◌≡◌, map, Some, Ok, Err, MatchResult, [], ◌∷◌, IsErr};
 
 use crate::faults::Fault;
 use links::LinkTable;
@@ -57,14 +57,15 @@ fn push_word(table: &mut Links, word: &str) -> Result<(), WordFault>
     table.push(link).then_some(()).ok_or(WordFault::TooMany)
 }
 
-// The link that a word of a line says goes behind the others; or word and line are told, and nothing is changed.
+// The link that a word of a line says goes behind the others; or word and line are told, and nothing is changed. Memory is
+// asked for only where the word does not go into the table.
 pub fn read_word(
     heap: Global,
     table: &mut Links,
     line: u64,
     word: &str,
 ) -> Result<(), Fault<BadWord>>
-    ensures { let due = words_into line (word.now ∷ []) (links_of table.old) in MatchResult result (λ _. due ≡ Ok (links_of table.new)) (λ f. Stops f due × (links_of table.new ≡ links_of table.old)) }
+    ensures { let due = words_into line (word.now ∷ []) (links_of table.old) in MatchResult result (λ _. due ≡ Ok (links_of table.new)) (λ f. Stops f due × (links_of table.new ≡ links_of table.old) × IsErr due) }
 {
     // Kept: `map_err` cannot make this fault, whose word is copied and may find no memory.
     if let Err(fault) = push_word(table, word) {

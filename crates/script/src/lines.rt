@@ -62,6 +62,10 @@ pub fn bytes_of(heap: Global, word: &str) -> Result<Option<Vec<u8>>, AllocError>
     if word == "-" {
         return Ok(Some(all));
     }
+    // Looked at before any byte is kept, so that a word of an odd length takes no memory.
+    if word.len() % 2 != 0 {
+        return Ok(None);
+    }
     let mut rest = word.as_bytes();
     while let [high, low, tail @ ..] = rest {
         match hex_byte(*high, *low) {

@@ -1,13 +1,14 @@
 //! What a host notes beside its chains: entries and header words; and the extent of a stream.
 
 ghost use Rattle.links.specs.Links.{END};
-ghost use Rattle.std.specs.Prelude.{◌≡◌, ◌==◌};
+ghost use Rattle.std.specs.Cmp.{on_per, on_equiv, partial_equiv_from_equiv, nat_eq_equiv};
+ghost use Rattle.std.specs.Prelude.{◌≡◌, ◌==◌, nat_eq};
 ghost use Rattle.store.specs.Kinds.{kind_of, byte_of};
 
 use links::consts::END_OF_CHAIN;
 
 // What kind of object an entry is. A damaged image can have a byte there that stands for none of the four; it is kept.
-#[derive(Clone, Copy, PartialEq, Eq, Debug)]
+#[derive(Clone, Copy, Debug)]
 pub enum ObjType {
     Unallocated,
     Storage,
@@ -30,6 +31,21 @@ impl ObjType {
     {
         u8::from(self) == 2
     }
+}
+
+// By the byte that they stand for, as it is all that a host keeps of them.
+impl PartialEq for ObjType {
+    ghost eq = { λ a b. nat_eq (byte_of a) (byte_of b) };
+
+    ghost laws = { on_per byte_of (partial_equiv_from_equiv nat_eq_equiv) };
+
+    fn eq(&self, other: &ObjType) -> bool {
+        u8::from(*self) == u8::from(*other)
+    }
+}
+
+impl Eq for ObjType {
+    ghost laws = { on_equiv byte_of nat_eq_equiv };
 }
 
 impl From<u8> for ObjType {

@@ -1,5 +1,5 @@
 -- Assumes nothing.
-use Rattle.std.proofs.Common.{◌≡◌, ℕ, ◌-◌, ◌≤◌, Bool, false, List, [], ◌∷◌, ◌++◌, length, get_or, take, drop, Some, None, vec_items, codes, Option, sym, refl, ap, ◌∙◌, arith}
+use Rattle.std.proofs.Common.{◌≡◌, ℕ, ◌-◌, ◌%◌, ◌≤◌, ◌≢◌, Bool, false, List, [], ◌∷◌, ◌++◌, length, get_or, take, drop, Some, None, vec_items, codes, Option, sym, refl, ap, ◌∙◌, arith}
 use Rattle.std.specs.Option.{option_map}
 use Rattle.std.specs.Str.{bytes_eq}
 use Rattle.std.proofs.lemmas.List.{append_assoc, take_rest}
@@ -35,6 +35,21 @@ stop rest xs t l e inv = ap (λ o. behind xs (joined o (pairs (drop 2 rest)))) e
 -- a word that is no - is pairs; t is the word as bytes
 of_pairs : (w t : List ℕ) (r : Bool) → t ≡ w → r ≡ bytes_eq w (codes "-") → r ≡ false → pairs t ≡ bytes_of w
 of_pairs w t r same d n = ap pairs same ∙ rw (sym d ∙ n)
+
+-- pairs of an odd length write nothing
+joined-none : (o : Option ℕ) → joined o None ≡ None
+joined-none None = refl
+joined-none (Some b) = refl
+
+pairs-odd : (w : List ℕ) → length w % 2 ≢ 0 → pairs w ≡ None
+pairs-odd [] n = absurd (n refl)
+pairs-odd (a ∷ []) n = refl
+pairs-odd (a ∷ b ∷ cs) n = ap (joined (byte_of a b)) (pairs-odd cs (λ e. n (omega (arith, e)))) ∙ joined-none (byte_of a b)
+
+pub returns-then-word-ne0 : goal.returns-then-word-ne0
+returns-then-word-ne0 c =
+    sym (pairs-odd c.args.word.now (λ e. c.if-word-ne0.true (omega (arith, e))))
+    ∙ of_pairs c.args.word.now c.args.word.now _ refl c.eq.ensures c.if-eq.false
 
 pub returns-in-None : goal.returns-in-None
 returns-in-None c =
