@@ -19,6 +19,11 @@ use Rattle.chain.specs.Units.{cell, content}
 use Rattle.chain.specs.Webs.{Web, Woven, Beside, Took, Behind, EndsWith, path_of, stored, with_more, with_new}
 use Rattle.chain.proofs.Joined.{joined_same}
 
+same_option : (o p : Option (List ℕ)) → ((qs : List ℕ) → (o ≡ Some qs) ↔ (p ≡ Some qs)) → o ≡ p
+same_option None None h = refl
+same_option None (Some y) h = (h y).1 refl
+same_option (Some x) p h = sym ((h x).0 refl)
+
 pub some_in : (p : ℕ) (ps : List ℕ) → In p ps → 0 < length ps
 some_in p [] i = absurd i
 some_in p (x ∷ ps) i = omega arith
@@ -65,9 +70,11 @@ module _ (w v : Web) (ww : Woven w) (wv : Woven v) (unit : v.unit ≡ w.unit) wh
   pub chain_kept : (k : ℕ) → ((qs : List ℕ) → Head (at w.links) k qs ↔ Head (at v.links) k qs)
       → ((qs : List ℕ) → Head (at w.links) k qs → (q : ℕ) → In q qs → cell w.unit v.bytes q ≡ cell w.unit w.bytes q)
       → (stored v).chain k ≡ (stored w).chain k
-  chain_kept k heads same = ⊎_elim
-      (λ s. chains_some v wv k s.0 ((heads s.0).0 s.2) ∙ ap Some (cells_kept s.0 (same s.0 s.2)) ∙ sym (chains_some w ww k s.0 s.2))
-      (λ e. let n = no_head w ww k e in chains_none v wv k (λ ps d. n ps ((heads ps).1 d)) ∙ sym (chains_none w ww k n)) (cases_chain w ww k)
+  unfolding content
+  chain_kept k heads same =
+      let told : chain_of v.links k ≡ chain_of w.links k = same_option _ _ (λ qs.
+      let a = chain_head w.links ww.few k qs in let b = chain_head v.links wv.few k qs in (λ e. a.1 ((heads qs).1 (b.0 e)), λ e. b.1 ((heads qs).0 (a.0 e)))) in
+      rw (told, cells_kept (path_of w.links k) (λ q i. same _ (path_headed w.links ww.few k (some_in q _ i)) q i)) refl
 
 -- beside the unit f
 module _ (w v : Web) (ww : Woven w) (wv : Woven v) (f : ℕ) (b : Beside w v f) where

@@ -1,6 +1,6 @@
 -- The same at a view: where a cursor stands, what a piece is, and writes one after another.
 -- Assumes nothing.
-use Rattle.std.proofs.Common.{◌≡◌, ℕ, ◌+◌, ◌-◌, ◌*◌, ◌/◌, ◌%◌, ◌<◌, ◌≤◌, ◌≢◌, List, [], ◌++◌, length, get_or, take, drop, Some, None, ⊎_elim, sym, refl, ap, ◌∙◌, lt_of_mul-lt-mul_right, arith}
+use Rattle.std.proofs.Common.{◌≡◌, ℕ, ◌+◌, ◌-◌, ◌*◌, ◌/◌, ◌%◌, ◌<◌, ◌≤◌, ◌≢◌, List, [], ◌++◌, length, get_or, take, drop, Some, None, ⊎_elim, sym, refl, ap, ◌∙◌, lt_of_mul-lt-mul_right, zero-mul, arith}
 use Rattle.std.proofs.lemmas.Bool.{lt-ltb, ltb-true, cases_lt}
 use Rattle.std.proofs.lemmas.List.{length-take, length-drop, length-take-le}
 use Rattle.std.proofs.lemmas.Option.{cond_some, none-some}
@@ -11,7 +11,7 @@ use Rattle.links.specs.Links.{In}
 use Rattle.store.specs.Meaning.{laid}
 use Rattle.chain.specs.declared.pieces.Cursor.{Cursor}
 use Rattle.chain.specs.declared.pieces.Piece.{Piece}
-use Rattle.chain.specs.Units.{View, Whole, cell, content, put, piece, On, Wrote}
+use Rattle.chain.specs.Units.{View, Whole, cell, content, put, at_start, piece, On, Wrote}
 use Rattle.chain.proofs.Laid.{laid_none, laid-laid, length-laid, read_more}
 use Rattle.chain.proofs.Joined.{in_get_d, length_units, slice_units, laid_units, joined_same, length-cell, cell_same, cell_other}
 
@@ -92,11 +92,14 @@ lies v c n p ok whole e =
 pub piece_none : (v : View) (c : Cursor) (n : ℕ) → None ≡ piece v c n → n ≤ c.done
 piece_none v c n e = ⊎_elim (λ more. absurd (none-some _ (rw (lt-ltb c.done n more) at e))) (λ all. all) (cases_lt c.done n)
 
+pub on_start : (v : View) → Whole v → (h a : ℕ) → On v (at_start h a)
+on_start v ok h a = record { here = λ l. sym (ok.first h l); before = omega (arith, zero-mul v.unit) }
+
 -- writes one after another
 pub wrote_none : (v : View) (h a : ℕ) → Wrote v v h a []
 wrote_none v h a = record { unit = refl; path = refl; kept = refl; below = refl; long = refl; chain = sym (laid_none (content v h) a); other = λ q n. refl }
 
-wrote-more : (v w x : View) (h a : ℕ) (ys zs : List ℕ) → a + length ys ≤ length (content v h) → Wrote v w h a ys → Wrote w x h (a + length ys) zs → Wrote v x h a (ys ++ zs)
+pub wrote-more : (v w x : View) (h a : ℕ) (ys zs : List ℕ) → a + length ys ≤ length (content v h) → Wrote v w h a ys → Wrote w x h (a + length ys) zs → Wrote v x h a (ys ++ zs)
 unfolding cell
 wrote-more v w x h a ys zs l o p = record {
   unit = p.unit ∙ o.unit;
@@ -107,6 +110,9 @@ wrote-more v w x h a ys zs l o p = record {
   chain = rw (p.chain, o.chain) (laid-laid (content v h) ys zs a l);
   other = λ q n. (rw (o.unit, o.path) at (p.other q)) n ∙ o.other q n;
 }
+
+pub same_size : (v w : View) (h a : ℕ) (ys : List ℕ) → Wrote v w h a ys → a + length ys ≤ length (content v h) → length (content w h) ≡ length (content v h)
+same_size v w h a ys o l = rw o.chain (length-laid (content v h) ys a l)
 
 -- one turn of a write of src, of which c.done bytes are written and the piece p is: it is written so far, the chain is as long
 -- as it was, and cursors stand as they did
@@ -124,7 +130,7 @@ wrote_turn {v} {w} x h a src {c} {p} few whole o head at l e =
     rw t (wrote-more v w x h a _ _ (omega (arith, l.all, l.some, l.from)) o (rw m (rw l.from at z))) in
     let long : length (take p.to src) ≡ p.to = length-take-le p.to src (omega (arith, l.all)) in (
       y,
-      rw y.chain (rw (length-laid (content v h) (take p.to src) a (omega (arith, long))) whole),
+      rw (same_size v x h a (take p.to src) y (omega (arith, long))) whole,
       λ b on. rw e (record { here = on.here; before = on.before }),
     )
 

@@ -84,6 +84,10 @@ module _ (w : Web) (ok : Woven w) where
       }
 
 -- what going along a chain tells
+pub survey_none : (o : Option (List ℕ)) (r : ℕ) → None ≡ surveyed o r → o ≡ None
+survey_none None r e = refl
+survey_none (Some ps) r e = absurd (none-some _ e)
+
 pub survey_some : (o : Option (List ℕ)) (r : ℕ) (s : Surveyed) → Some s ≡ surveyed o r → (ps : List ℕ) × (o ≡ Some ps) × (s.units ≡ length ps) × (s.place ≡ reach 0 ps r)
 survey_some None r s e = absurd (none-some s (sym e))
 survey_some (Some ps) r s e = let q : s ≡ record { units = length ps; place = reach 0 ps r } = cc in (ps, refl, ap (λ (x : Surveyed). x.units) q, ap (λ (x : Surveyed). x.place) q)

@@ -11,7 +11,7 @@ ghost use Rattle.drawer.specs.Drawn.{noted, drawn, fresh, times, Steps};
 ghost use Rattle.store.specs.Meaning.{Store, extended, due_head, units_of};
 ghost use Rattle.store.specs.Refusals.{told, answer};
 
-use crate::table::Table;
+pub use crate::table::Table;
 use cells::{Cells, UNIT, UNITS};
 use links::consts::END_OF_CHAIN;
 use store::entries::{Entry, Words};

@@ -72,7 +72,7 @@ module _ (most : ℕ) (m : Store) (ok : Lawful most m) (h : Hosted m) (L : List 
     take_is = rw there.room refl
 
     -- and is zeroed
-    place_bytes : place_after L S * 64 + 64 ≤ length (bytes_of m (stream_at m))
+    pub place_bytes : place_after L S * 64 + 64 ≤ length (bytes_of m (stream_at m))
     place_bytes = there.prepared.bytes
 
     -- the table's call gave r, which is p; s is the host then

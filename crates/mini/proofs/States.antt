@@ -128,6 +128,9 @@ module _ (m s : Store) (xs ys : List ℕ) (r : ℕ) (b : Store) (k : State m s x
 
   -- the root has another length
   module _ (n : ℕ) where
+    pub root_set : (layer : ℕ) → entered s layer 0 (stream_at s) n ≡ rooted s n
+    root_set layer = entered_yes s layer (stream_at s) n k.hosted.some
+
     pub two-rooted : stream_at (rooted s n) ≢ fat_at (rooted s n)
     two-rooted e = two (sym (rooted_start s k.hosted.some n) ∙ e)
 

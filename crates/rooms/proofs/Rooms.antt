@@ -61,12 +61,17 @@ fits_down g j k h l =
     let a = parts_more g j k l in
     fits_from g j (omega arith) (omega arith)
 
-pub none-fits : (g : Ground) → Fair g → fits g 0 ≡ true
-none-fits g f =
+pub none_needed : (g : Ground) → Fair g → need g 0 ≡ 0
+none_needed g f =
     let t = f.table in
     let s = f.stream in
+    omega (arith, up_more (g.unit / 4) (g.links + 0) g.links (omega arith), up_more (g.unit / 64) (g.root + 0) g.root (omega arith))
+
+pub none-fits : (g : Ground) → Fair g → fits g 0 ≡ true
+none-fits g f =
     let l = f.few in
-    fits_from g 0 (omega arith) (omega (arith, up_more (g.unit / 4) (g.links + 0) g.links (omega arith), up_more (g.unit / 64) (g.root + 0) g.root (omega arith)))
+    let n = none_needed g f in
+    fits_from g 0 (omega arith) (omega arith)
 
 -- These three open the definition of the growth; all that follows goes by them.
 pub growth_passes : (g : Ground) → 0 < growth g → fits g (growth g) ≡ true
@@ -88,6 +93,9 @@ growth-fits g h = grind (arith, growth_passes)
 
 pub largest-fits : (g : Ground) → Fair g → fits g (growth g) ≡ true
 largest-fits g f = growth-fits g (none-fits g f)
+
+pub growth_cap : (g : Ground) → Fair g → growth g + g.links ≤ 4096
+growth_cap g f = omega (arith, (fits_parts g (growth g) (largest-fits g f)).0)
 
 -- what does not fit is above the growth; 0 is left out, since the growth is 0 where nothing fits
 pub growth_below : (g : Ground) (k : ℕ) → 0 < k → fits g k ≡ false → growth g < k
@@ -118,6 +126,9 @@ reserve_same g j f =
     let two : growth r ≤ growth g = largest_most g (growth r) (sym (reserve_fits g j (growth r) f high) ∙ growth-fits r (fits_down r 0 j here (omega arith))) in
     omega arith
 
+pub reserve_fair : (g : Ground) (j : ℕ) → Fair g → Fair (reserved g j)
+reserve_fair g j f = record { size = f.size; few = f.few; table = let t = f.table in omega arith; stream = let s = f.stream in omega arith }
+
 -- Growing by j places that need no sector takes j from the growth.
 taller-fits : (g : Ground) (j k : ℕ) → fits (taller g j) k ≡ fits g (j + k)
 taller-fits g j k =
@@ -138,6 +149,9 @@ taller_less g j n l =
     let zero-fits : fits t 0 ≡ true = taller-fits g j 0 ∙ (ap (fits g) j0 ∙ here) in
     let two : j + growth t ≤ growth g = largest_most g (j + growth t) (sym (taller-fits g j (growth t)) ∙ growth-fits t zero-fits) in
     omega arith
+
+pub taller_fair : (g : Ground) (j : ℕ) → Fair g → need g j ≡ 0 → g.links + j ≤ 4096 → Fair (taller g j)
+taller_fair g j f n l = record { size = f.size; few = l; table = omega arith; stream = omega arith }
 
 -- what the bisection needs
 pub ruleset bisected = (growth-within, largest_most, growth_below)
